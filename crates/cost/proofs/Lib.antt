@@ -1,0 +1,2 @@
+pub mod Capped
+pub mod SplitRanks

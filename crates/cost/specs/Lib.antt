@@ -1,0 +1,7 @@
+pub mod Kind
+pub mod Laws
+pub mod Forms
+pub mod Joins
+pub mod Sum
+pub mod Split
+pub mod Worked
