@@ -1,7 +1,7 @@
 -- The numbering of refusals: each case with its number and the facts that it names.
 --
 --   bare n           number n, and nothing besides
---   fault-code f     what a faulty record tells: its record, the fault's own number, and the fault's layer
+--   fault-code f     what a faulty record tells: the index of its record, the fault's own number, and the fault's layer
 --   code-of r        the number and facts of a refusal
 use Prim.Native.Nat.{ℕ}
 use Rattle.refusal.specs.declared.Code.{Code}
@@ -17,7 +17,7 @@ abbrev pub bare : ℕ → Code
 bare n = record { number = n; facts = Bare }
 
 abbrev pub fault-code : RecordFault → Facts
-fault-code (fault.Field f) = Below (f .record) 21 layer.Field
+fault-code (fault.Field f) = Below (f .index) 21 layer.Field
 fault-code (fault.NoStation k) = Below k 3 layer.Record
 fault-code (fault.SelfLink k) = Below k 4 layer.Record
 fault-code (fault.Repeated k) = Below k 6 layer.Record
@@ -33,5 +33,5 @@ code-of refusal.Kind = bare 18
 code-of refusal.Counts = bare 19
 code-of refusal.Length = bare 20
 code-of refusal.NoCost = bare 21
-code-of (refusal.Field f) = record { number = 21; facts = AtRecord (f .record) }
+code-of (refusal.Field f) = record { number = 21; facts = AtRecord (f .index) }
 code-of (refusal.Record f) = record { number = 22; facts = fault-code f }

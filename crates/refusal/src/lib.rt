@@ -16,16 +16,16 @@ pub enum Layer {
 // A fault of one field of a record: its number lies outside the link range of the plan's kind.
 #[derive(Clone, Copy, PartialEq, Eq, Debug)]
 pub struct FieldFault {
-    pub record: u16,
+    pub index: u16,
 }
 
 // A fault of one record: of a field of it, or of what its two stations are to the plan.
 #[derive(Clone, Copy, PartialEq, Eq, Debug)]
 pub enum RecordFault {
     Field(FieldFault),
-    NoStation { record: u16 },
-    SelfLink { record: u16 },
-    Repeated { record: u16 },
+    NoStation { index: u16 },
+    SelfLink { index: u16 },
+    Repeated { index: u16 },
 }
 
 // Why a call was refused.
@@ -51,7 +51,7 @@ pub enum Facts {
     Bare,
     AtRecord(u16),
     Below {
-        record: u16,
+        index: u16,
         number: u8,
         layer: Layer,
     },
@@ -94,23 +94,23 @@ impl RecordFault {
         ensures value { λ r. ⌜ r ≡ fault-code self ⌝ }
     {
         match self {
-            RecordFault::Field(FieldFault { record }) => Facts::Below {
-                record,
+            RecordFault::Field(FieldFault { index }) => Facts::Below {
+                index,
                 number: 21,
                 layer: Layer::Field,
             },
-            RecordFault::NoStation { record } => Facts::Below {
-                record,
+            RecordFault::NoStation { index } => Facts::Below {
+                index,
                 number: 3,
                 layer: Layer::Record,
             },
-            RecordFault::SelfLink { record } => Facts::Below {
-                record,
+            RecordFault::SelfLink { index } => Facts::Below {
+                index,
                 number: 4,
                 layer: Layer::Record,
             },
-            RecordFault::Repeated { record } => Facts::Below {
-                record,
+            RecordFault::Repeated { index } => Facts::Below {
+                index,
                 number: 6,
                 layer: Layer::Record,
             },
@@ -134,9 +134,9 @@ impl Refusal {
             Refusal::Counts => bare(19),
             Refusal::Length => bare(20),
             Refusal::NoCost => bare(21),
-            Refusal::Field(FieldFault { record }) => Code {
+            Refusal::Field(FieldFault { index }) => Code {
                 number: 21,
-                facts: Facts::AtRecord(record),
+                facts: Facts::AtRecord(index),
             },
             Refusal::Record(fault) => Code {
                 number: 22,

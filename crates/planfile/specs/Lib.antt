@@ -1,0 +1,6 @@
+pub mod Format
+pub mod Bytes
+pub mod Records
+pub mod Encoding
+pub mod Faults
+pub mod Reading

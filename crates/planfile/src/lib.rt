@@ -1,0 +1,14 @@
+// Plan files: a plan's stations and links as bytes, both ways, in three layers: field, record and file.
+// Rests on the cost kinds and the refusals.
+// The programs read with it, and plans are commissioned from it.
+mod field;
+mod fields;
+mod kind;
+mod pairs;
+mod record;
+
+pub use fields::Fields;
+pub use kind::FileKind;
+pub use kind::LinkRange;
+pub use kind::SplitFile;
+pub use kind::SumFile;
