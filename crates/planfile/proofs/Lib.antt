@@ -1,3 +1,5 @@
 pub mod Codec
+pub mod FirstFault
 pub mod RecordBytes
+pub mod Seen
 pub mod Unseen

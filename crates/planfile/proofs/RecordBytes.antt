@@ -1,11 +1,12 @@
 -- Records and their bytes: the fields of a list's records are those whose bytes the list is.
 use mathlib.Core.Path.{_≡_, refl, sym, ap, ap₂, _∙_}
 use mathlib.Core.List.{List, [], _∷_, _++_, map}
-use Prim.Native.Nat.{ℕ, zero, suc, _+_, _*_, _^_, _<_, _≤_}
+use Prim.Native.Nat.{ℕ, zero, suc, _+_, _-_, _*_, _^_, _<_, _≤_}
 use native.Mathlib.Omega.{arith}
 use lib.ListN.{length, getD, take, drop}
 use lib.Seq.{take-add}
-use Rattle.std.proofs.shelf.Lists.{drop-drop, getD-drop, append-assoc, take-append-drop, length-drop, nil-from-length}
+use Rattle.std.proofs.shelf.Lists.{drop-drop, getD-drop, append-assoc, take-append-drop, length-drop, nil-from-length, take-rest}
+use Rattle.std.proofs.shelf.Counted.{length-map-counting, getD-map-counting}
 use Rattle.std.specs.Iters.{counting}
 use Rattle.std.specs.Joined.{joined}
 use Rattle.std.specs.shelf.Lists.{All}
@@ -73,3 +74,13 @@ records-of-bytes (x ∷ xs) fit =
 pub length-records : (xs : List Fields) → length (joined field-bytes xs) ≡ 12 * length xs
 length-records [] = refl
 length-records (x ∷ xs) = ap (λ n. suc (suc (suc (suc (suc (suc (suc (suc (suc (suc (suc (suc n)))))))))))) (length-records xs) ∙ omega arith
+
+pub length-records-of : (count : ℕ) (bs : List ℕ) → length (records-of count bs) ≡ count
+length-records-of count bs = length-map-counting (λ k. first-fields (drop (12 * k) bs)) 0 count
+
+-- what is read at `&bs[12 * k..]` is record k
+pub record-here : (count : ℕ) (bs : List ℕ) (k : ℕ) (x : Fields) → k < count → x ≡ first-fields (take (length bs - 12 * k) (drop (12 * k) bs)) → x ≡ getD (records-of count bs) k x
+record-here count bs k x below read =
+    read
+    ∙ ap first-fields (take-rest bs (12 * k))
+    ∙ sym (getD-map-counting (λ j. first-fields (drop (12 * j) bs)) 0 count k k x below (omega arith))

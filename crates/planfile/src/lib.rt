@@ -5,6 +5,7 @@ mod field;
 mod fields;
 mod kind;
 mod pairs;
+mod read;
 mod record;
 
 pub use fields::Fields;

@@ -14,6 +14,7 @@ pub(crate) struct Pairs {
 impl Pairs {
     // No pair yet.
     pub(crate) fn new() -> Pairs
+        ensures long { λ r. ⌜ length (r .seen) ≡ 65536 ⌝ }
         ensures none { λ r. ⌜ ((k : ℕ) → getD (r .seen) k false ≡ false) ⌝ }
     {
         Pairs {
