@@ -24,7 +24,7 @@ bytes-of-first bs fits small =
     ∙ ap (λ l. take 2 bs ++ l) (ap (λ l. take 2 (drop 2 bs) ++ take 8 l) (sym (drop-drop 2 2 bs)) ∙ sym (take-add 2 8 (drop 2 bs)))
     ∙ sym (take-add 2 10 bs)
 
-small-drop : (n : ℕ) (bs : List ℕ) → Small bs → Small (drop n bs)
+pub small-drop : (n : ℕ) (bs : List ℕ) → Small bs → Small (drop n bs)
 small-drop n bs small i = rw (getD-drop n bs i 0) (small (n + i))
 
 -- the records from the second on are those of what is left

@@ -59,24 +59,24 @@ holds-more seen earlier y low holds =
     record {
       long = length-set seen (place y) true ∙ holds .long;
       tells-of = λ x low-x. ⊎-elim
-        (λ (same : place x ≡ place y).
-            ap (λ k. getD (set seen (place y) true) k false) same
-            ∙ getD-set-same seen (place y) true false (omega (arith, holds .long, low .from, low .to))
-            ∙ sym (repeats-push earlier y x ∙ ap (λ b. repeats earlier x || b) (same-pair y x (omega (arith, low .to, low-x .to)) (omega (arith, low .to, low-x .to))) ∙ or-right-true (repeats earlier x)))
-        (λ ne.
-            getD-set-other seen (place y) (place x) true false ne
-            ∙ holds .tells-of x low-x
-            ∙ sym (repeats-push earlier y x ∙ ap (λ b. repeats earlier x || b) (other-pair y x low low-x ne) ∙ or-right-false (repeats earlier x)))
-        (cases-eq (place x) (place y));
+          (λ (same : place x ≡ place y).
+          ap (λ k. getD (set seen (place y) true) k false) same
+          ∙ getD-set-same seen (place y) true false (omega (arith, holds .long, low .from, low .to))
+          ∙ sym (repeats-push earlier y x ∙ ap (λ b. repeats earlier x || b) (same-pair y x (omega (arith, low .to, low-x .to)) (omega (arith, low .to, low-x .to))) ∙ or-right-true (repeats earlier x)))
+          (λ ne.
+          getD-set-other seen (place y) (place x) true false ne
+          ∙ holds .tells-of x low-x
+          ∙ sym (repeats-push earlier y x ∙ ap (λ b. repeats earlier x || b) (other-pair y x low low-x ne) ∙ or-right-false (repeats earlier x)))
+          (cases-eq (place x) (place y));
     }
 
 -- the table's word serves as well as the earlier records'
 pub fault-seen : (f : Format) (n k : ℕ) (seen : List Bool) (earlier : List Fields) (x : Fields) → n ≤ 256 → Holds seen earlier → fault f n k (getD seen (place x) false) x ≡ fault f n k (repeats earlier x) x
 fault-seen f n k seen earlier x few holds = ⊎-elim
     (λ (from : x .from < 256). ⊎-elim
-        (λ (to : x .to < 256). ap (λ b. fault f n k b x) (holds .tells-of x (record { from = from; to = to })))
-        (λ to. let high : (leb n (x .from) || leb n (x .to)) ≡ true = or-right (leb n (x .from)) (leb n (x .to)) (le-leb n (x .to) (omega arith)) in rw high)
-        (cases-lt (x .to) 256))
+    (λ (to : x .to < 256). ap (λ b. fault f n k b x) (holds .tells-of x (record { from = from; to = to })))
+    (λ to. let high : (leb n (x .from) || leb n (x .to)) ≡ true = or-right (leb n (x .from)) (leb n (x .to)) (le-leb n (x .to) (omega arith)) in rw high)
+    (cases-lt (x .to) 256))
     (λ from. let high : (leb n (x .from) || leb n (x .to)) ≡ true = or-left (leb n (x .from)) (leb n (x .to)) (le-leb n (x .from) (omega arith)) in rw high)
     (cases-lt (x .from) 256)
 

@@ -1,7 +1,8 @@
 -- What a plan file has of a cost kind: three fixed things.
 --
 --   Format                  the kind byte, the word, and the range of link costs, both ends included
---   RangeFits m formed f    the range leaves out zero and FAR, and each number in it forms a cost
+--   Ranged m formed f r     r is the link range of the format: it leaves out zero and FAR, and each number in it
+--                           forms a cost
 --   sum-format              byte 0, word sum, 1 to 1,000,000,000
 --   split-format            byte 1, word split, 2 to 64
 use mathlib.Core.Path.{_≡_}
@@ -12,6 +13,7 @@ use lib.Chars.{codes}
 use Rattle.std.specs.Options.{isSome}
 use Rattle.std.specs.declared.option.Option.{Option}
 use Rattle.cost.specs.Kind.{Kind, FAR}
+use Rattle.planfile.specs.declared.kind.LinkRange.{LinkRange}
 
 pub record Format : Type 0 where
   pub byte : ℕ
@@ -19,7 +21,9 @@ pub record Format : Type 0 where
   pub low : ℕ
   pub high : ℕ
 
-pub record RangeFits {K : Type 0} (m : Kind K) (formed : ℕ → Option K) (f : Format) : Type 0 where
+pub record Ranged {K : Type 0} (m : Kind K) (formed : ℕ → Option K) (f : Format) (r : LinkRange) : Type 0 where
+  pub low : r .low ≡ f .low
+  pub high : r .high ≡ f .high
   pub zero-out : m .rank (m .zero) < f .low
   pub far-out : f .high < FAR
   pub forms : (v : ℕ) → f .low ≤ v → v ≤ f .high → isSome (formed v) ≡ true

@@ -6,15 +6,21 @@ ghost use Rattle.std.specs.Options.{valueOr};
 ghost use Rattle.std.specs.Vec.{made};
 ghost use Rattle.std.specs.declared.option.Option.the-variants.{Some, None};
 ghost use Rattle.planfile.specs.Faults.{outside};
+ghost use Rattle.planfile.specs.Format.{Ranged};
 use super::kind::FileKind;
+use super::kind::LinkRange;
 use refusal::FieldFault;
 
 // The cost that a number of the link range forms; a number outside it is a fault of the record.
-pub(crate) fn link_cost<K: FileKind>(index: u16, number: u64) -> Result<K, FieldFault>
+pub(crate) fn link_cost<K: FileKind>(
+    range: LinkRange,
+    index: u16,
+    number: u64,
+) -> Result<K, FieldFault>
+    requires { ⌜ Ranged (K·Cost .kind) (K·Cost .formed) (K·FileKind .format) range ⌝ }
     ensures refused { λ r. ⌜ errPart r ≡ cond (outside (K·FileKind .format .low) (K·FileKind .format .high) number) (Some (record { index = index })) None ⌝ }
     ensures value { λ r. ⌜ made r (λ c. c ≡ valueOr (K·Cost .formed number) (K·Cost .kind .far)) ⌝ }
 {
-    let range = K::link_range();
     if number < range.low || number > range.high {
         return Err(FieldFault { index });
     }

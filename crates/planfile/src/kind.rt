@@ -1,6 +1,6 @@
 // File kinds: a cost kind with what a plan file has of it, a kind byte, a word and a range of link costs.
 ghost use mathlib.Core.Path.{_≡_};
-ghost use Rattle.planfile.specs.Format.{Format, RangeFits, sum-format, split-format};
+ghost use Rattle.planfile.specs.Format.{Format, Ranged, sum-format, split-format};
 use cost::Cost;
 use cost::Split;
 use cost::SplitCost;
@@ -32,9 +32,7 @@ pub trait FileKind: Cost {
 
     // The range of link costs: it leaves out zero and FAR, and each number in it forms a cost.
     fn link_range() -> LinkRange
-        ensures low { λ r. ⌜ r .low ≡ format .low ⌝ }
-        ensures high { λ r. ⌜ r .high ≡ format .high ⌝ }
-        ensures fits { λ _. ⌜ RangeFits (Self·Cost .kind) (Self·Cost .formed) format ⌝ };
+        ensures value { λ r. ⌜ Ranged (Self·Cost .kind) (Self·Cost .formed) format r ⌝ };
 }
 
 pub impl FileKind for Sum as SumFile {

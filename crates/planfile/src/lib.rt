@@ -1,6 +1,7 @@
 // Plan files: a plan's stations and links as bytes, both ways, in three layers: field, record and file.
 // Rests on the cost kinds and the refusals.
 // The programs read with it, and plans are commissioned from it.
+mod counts;
 mod field;
 mod fields;
 mod kind;
@@ -8,6 +9,7 @@ mod pairs;
 mod read;
 mod record;
 
+pub use counts::Counts;
 pub use fields::Fields;
 pub use kind::FileKind;
 pub use kind::LinkRange;

@@ -3,25 +3,74 @@ ghost use mathlib.Core.Path.{_≡_};
 ghost use mathlib.Core.List.{[]};
 ghost use Prim.Native.Nat.{_*_, _≤_};
 ghost use lib.ListN.{length};
-ghost use Rattle.refusal.specs.First.{fault-told};
+ghost use Rattle.std.specs.Vec.{made};
+ghost use Rattle.refusal.specs.First.{fault-told, told};
+ghost use Rattle.planfile.specs.Encoding.{encoding};
 ghost use Rattle.planfile.specs.Faults.{first-fault};
+ghost use Rattle.planfile.specs.Format.{Ranged};
+ghost use Rattle.planfile.specs.Reading.{counts-of, file-records, reading-refusal};
 ghost use Rattle.planfile.specs.Records.{records-of};
+use super::counts::Counts;
 use super::fields::Fields;
 use super::kind::FileKind;
+use super::kind::LinkRange;
 use super::pairs::Pairs;
 use super::record::read_link;
 use refusal::RecordFault;
+use refusal::Refusal;
+use refusal::RefusalFromRecord;
+
+// The counts of a file that a list of so many places can take, or the first refusal that fits.
+fn inspect<K: FileKind>(range: LinkRange, bytes: &[u8], places: usize) -> Result<Counts, Refusal>
+    requires { ⌜ Ranged (K·Cost .kind) (K·Cost .formed) (K·FileKind .format) range ⌝ }
+    ensures refused { λ r. ⌜ told r ≡ reading-refusal (K·FileKind .format) places (now (bytes .entry)) ⌝ }
+    ensures value { λ r. ⌜ made r (λ c. c ≡ counts-of (now (bytes .entry))) ⌝ }
+    ensures encoded { λ r. ⌜ made r (λ c. encoding (K·FileKind .format) (c .stations) (file-records (now (bytes .entry))) ≡ now (bytes .entry)) ⌝ }
+{
+    if places < 1 || places > 4096 {
+        return Err(Refusal::Places);
+    }
+    let [c, p, l, v1, v0, kind, n1, n0, k1, k0, records @ ..] = bytes else {
+        return Err(Refusal::ShortHeader);
+    };
+    if *c != b'C' || *p != b'P' || *l != b'L' {
+        return Err(Refusal::Mark);
+    }
+    if u16::from_be_bytes([*v1, *v0]) != 1 {
+        return Err(Refusal::Version);
+    }
+    if *kind != K::kind_byte() {
+        return Err(Refusal::Kind);
+    }
+    let stations = u16::from_be_bytes([*n1, *n0]);
+    let links = u16::from_be_bytes([*k1, *k0]);
+    if stations < 1 || stations > 256 || links as usize > places {
+        return Err(Refusal::Counts);
+    }
+    if records.len() != 12 * links as usize {
+        return Err(Refusal::Length);
+    }
+    let counts = Counts { stations, links };
+    check_records::<K>(range, counts, records)?;
+    Ok(counts)
+}
 
 // Passes the records of a plan of so many stations, or answers the first fault.
-fn check_records<K: FileKind>(stations: u16, links: u16, records: &[u8]) -> Result<(), RecordFault>
-    requires { ⌜ stations ≤ 256 ⌝ ∗ ⌜ length (now records) ≡ 12 * links ⌝ }
-    ensures refused { λ r. ⌜ fault-told r ≡ first-fault (K·FileKind .format) stations [] (records-of links (now (records .entry))) ⌝ }
+fn check_records<K: FileKind>(
+    range: LinkRange,
+    counts: Counts,
+    records: &[u8],
+) -> Result<(), RecordFault>
+    requires ranged { ⌜ Ranged (K·Cost .kind) (K·Cost .formed) (K·FileKind .format) range ⌝ }
+    requires few { ⌜ counts .stations ≤ 256 ⌝ }
+    requires long { ⌜ length (now records) ≡ 12 * counts .links ⌝ }
+    ensures refused { λ r. ⌜ fault-told r ≡ first-fault (K·FileKind .format) (counts .stations) [] (records-of (counts .links) (now (records .entry))) ⌝ }
 {
     let mut seen = Pairs::new();
-    for index in 0..links {
+    for index in 0..counts.links {
         let at = 12 * index as usize;
         let fields = Fields::first(&records[at..]);
-        read_link::<K>(index, stations, fields, &mut seen)?;
+        read_link::<K>(range, counts.stations, index, fields, &mut seen)?;
     }
     Ok(())
 }

@@ -6,10 +6,12 @@ ghost use lib.ListN.{getD, set, length};
 ghost use Rattle.std.specs.Vec.{made};
 ghost use Rattle.refusal.specs.First.{fault-told};
 ghost use Rattle.planfile.specs.Faults.{fault};
+ghost use Rattle.planfile.specs.Format.{Ranged};
 ghost use Rattle.planfile.specs.Records.{first-fields, link-of};
 use super::field::link_cost;
 use super::fields::Fields;
 use super::kind::FileKind;
+use super::kind::LinkRange;
 use super::pairs::Pairs;
 use cost::Link;
 use refusal::RecordFault;
@@ -43,17 +45,19 @@ impl Fields {
 
 // The link of record `index` on a plan of so many stations, after the pairs already seen.
 pub(crate) fn read_link<K: FileKind>(
-    index: u16,
+    range: LinkRange,
     stations: u16,
+    index: u16,
     fields: Fields,
     seen: &mut Pairs,
 ) -> Result<Link<K>, RecordFault>
-    requires { ⌜ stations ≤ 256 ⌝ }
+    requires ranged { ⌜ Ranged (K·Cost .kind) (K·Cost .formed) (K·FileKind .format) range ⌝ }
+    requires few { ⌜ stations ≤ 256 ⌝ }
     ensures refused { λ r. ⌜ fault-told r ≡ fault (K·FileKind .format) stations index (getD (now (seen .entry) .seen) (fields .from * 256 + fields .to) false) fields ⌝ }
     ensures value { λ r. ⌜ made r (λ l. l ≡ link-of (K·Cost .kind) (K·Cost .formed) fields) ⌝ }
     ensures after { λ r. ⌜ made r (λ _. now (seen .exit) .seen ≡ set (now (seen .entry) .seen) (fields .from * 256 + fields .to) true) ⌝ }
 {
-    let cost = link_cost::<K>(index, fields.number)?;
+    let cost = link_cost::<K>(range, index, fields.number)?;
     if fields.from >= stations || fields.to >= stations {
         return Err(RecordFault::NoStation { index });
     }

@@ -9,6 +9,6 @@ use Rattle.planfile.proofs.read.check_records.Given as given
 
 abbrev pub Inv-loop-index : given.InvT-loop-index
 Inv-loop-index g l =
-    let xs = records-of (l .links) (l .records) in
+    let xs = records-of (l .counts .links) (l .records) in
     Holds (l .seen .seen) (take (l .index) xs)
-    × (first-fault (g .K·FileKind .format) (l .stations) (take (l .index) xs) (drop (l .index) xs) ≡ first-fault (g .K·FileKind .format) (l .stations) [] xs)
+    × (first-fault (g .K·FileKind .format) (l .counts .stations) (take (l .index) xs) (drop (l .index) xs) ≡ first-fault (g .K·FileKind .format) (l .counts .stations) [] xs)
