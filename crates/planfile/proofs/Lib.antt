@@ -4,4 +4,6 @@ pub mod FirstFault
 pub mod HeaderTests
 pub mod RecordBytes
 pub mod Seen
+pub mod Soundness
+pub mod Stored
 pub mod Unseen

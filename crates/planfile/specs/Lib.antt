@@ -4,3 +4,4 @@ pub mod Records
 pub mod Encoding
 pub mod Faults
 pub mod Reading
+pub mod Sound

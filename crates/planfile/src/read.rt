@@ -1,21 +1,22 @@
 // The file layer, reading: a header, then records, into a list of links.
 ghost use mathlib.Core.Path.{_≡_};
-ghost use mathlib.Core.List.{[]};
-ghost use Prim.Native.Nat.{_*_, _≤_};
-ghost use lib.ListN.{length};
+ghost use mathlib.Core.List.{[], map, _++_};
+ghost use Prim.Native.Nat.{_*_, _<_, _≤_};
+ghost use lib.ListN.{drop, length, set};
 ghost use Rattle.std.specs.Vec.{made};
 ghost use Rattle.refusal.specs.First.{fault-told, told};
 ghost use Rattle.planfile.specs.Encoding.{encoding};
 ghost use Rattle.planfile.specs.Faults.{first-fault};
 ghost use Rattle.planfile.specs.Format.{Ranged};
 ghost use Rattle.planfile.specs.Reading.{counts-of, file-records, reading-refusal};
-ghost use Rattle.planfile.specs.Records.{records-of};
+ghost use Rattle.planfile.specs.Records.{link-of, records-of};
 use super::counts::Counts;
 use super::fields::Fields;
 use super::kind::FileKind;
 use super::kind::LinkRange;
 use super::pairs::Pairs;
 use super::record::read_link;
+use cost::Link;
 use refusal::RecordFault;
 use refusal::Refusal;
 use refusal::RefusalFromRecord;
@@ -73,4 +74,25 @@ fn check_records<K: FileKind>(
         read_link::<K>(range, counts.stations, index, fields, &mut seen)?;
     }
     Ok(())
+}
+
+// Puts the links of the records at the start of the list.
+fn store<K: FileKind>(links: u16, records: &[u8], list: &mut [Link<K>])
+    requires long { ⌜ length (now records) ≡ 12 * links ⌝ }
+    requires room { ⌜ links ≤ length (now list) ⌝ }
+    ensures after { λ _. ⌜ now (list .exit) ≡ map (link-of (K·Cost .kind) (K·Cost .formed)) (records-of links (now (records .entry))) ++ drop links (now (list .entry)) ⌝ }
+{
+    for index in 0..links {
+        let at = 12 * index as usize;
+        let fields = Fields::first(&records[at..]);
+        put(list, index as usize, fields.link::<K>());
+    }
+}
+
+// Puts a value at a place of the list.
+fn put<T: Copy>(list: &mut [T], at: usize, value: T)
+    requires { ⌜ at < length (now list) ⌝ }
+    ensures after { λ _. ⌜ now (list .exit) ≡ set (now (list .entry)) at value ⌝ }
+{
+    list[at] = value;
 }

@@ -41,6 +41,17 @@ impl Fields {
             number: u64::from_be_bytes(number),
         }
     }
+
+    // The link that the fields stand for.
+    pub(crate) fn link<K: FileKind>(self) -> Link<K>
+        ensures value { λ r. ⌜ r ≡ link-of (K·Cost .kind) (K·Cost .formed) self ⌝ }
+    {
+        Link {
+            from: self.from,
+            to: self.to,
+            cost: K::form(self.number).unwrap_or(K::far()),
+        }
+    }
 }
 
 // The link of record `index` on a plan of so many stations, after the pairs already seen.
