@@ -1,3 +1,4 @@
+pub mod BothWays
 pub mod Codec
 pub mod FileBytes
 pub mod FirstFault

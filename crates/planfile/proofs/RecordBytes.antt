@@ -11,6 +11,7 @@ use Rattle.std.specs.Iters.{counting}
 use Rattle.std.specs.Joined.{joined}
 use Rattle.std.specs.shelf.Lists.{All}
 use Rattle.planfile.specs.Records.{field-bytes, first-fields, records-of}
+use Rattle.planfile.specs.RoundTrip.{FieldsFit}
 use Rattle.planfile.specs.declared.fields.Fields.{Fields}
 use Rattle.planfile.proofs.Codec.{Small, bytes-of-number, number-of-bytes, number-below}
 
@@ -49,12 +50,6 @@ bytes-of-records (suc count) bs long small =
     ap (joined field-bytes) (records-rest count bs)
     ∙ ap₂ _++_ (bytes-of-first bs (omega arith) small) (bytes-of-records count (drop 12 bs) (simp length-drop (omega arith)) (small-drop 12 bs small))
     ∙ take-append-drop 12 bs
-
--- fields that fit their places in a record
-pub record FieldsFit (x : Fields) : Type 0 where
-  pub from : x .from < 65536
-  pub to : x .to < 65536
-  pub number : x .number < 18446744073709551616
 
 first-of-bytes : (x : Fields) (rest : List ℕ) → FieldsFit x → first-fields (field-bytes x ++ rest) ≡ x
 first-of-bytes x rest fit =

@@ -2,7 +2,7 @@
 --
 --   Format                  the kind byte, the word, and the range of link costs, both ends included
 --   Ranged m formed f r     r is the link range of the format: it leaves out zero and FAR, and each number in it
---                           forms a cost
+--                           forms a cost; and the kind byte is a byte
 --   sum-format              byte 0, word sum, 1 to 1,000,000,000
 --   split-format            byte 1, word split, 2 to 64
 use mathlib.Core.Path.{_≡_}
@@ -24,6 +24,7 @@ pub record Format : Type 0 where
 pub record Ranged {K : Type 0} (m : Kind K) (formed : ℕ → Option K) (f : Format) (r : LinkRange) : Type 0 where
   pub low : r .low ≡ f .low
   pub high : r .high ≡ f .high
+  pub byte-fits : f .byte < 256
   pub zero-out : m .rank (m .zero) < f .low
   pub far-out : f .high < FAR
   pub forms : (v : ℕ) → f .low ≤ v → v ≤ f .high → isSome (formed v) ≡ true

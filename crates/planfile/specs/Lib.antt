@@ -5,3 +5,5 @@ pub mod Encoding
 pub mod Faults
 pub mod Reading
 pub mod Sound
+pub mod Writing
+pub mod RoundTrip

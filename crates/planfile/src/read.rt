@@ -1,15 +1,19 @@
 // The file layer, reading: a header, then records, into a list of links.
 ghost use mathlib.Core.Path.{_≡_};
-ghost use mathlib.Core.List.{[], map, _++_};
-ghost use Prim.Native.Nat.{_*_, _<_, _≤_};
-ghost use lib.ListN.{drop, length, set};
+ghost use mathlib.Core.Bool.{cond, true};
+ghost use mathlib.Core.List.{List, [], map, _++_};
+ghost use Prim.Native.Nat.{ℕ, _+_, _*_, _<_, _≤_};
+ghost use lib.ListN.{drop, length, set, take};
+ghost use Rattle.std.specs.Results.{isOk};
 ghost use Rattle.std.specs.Vec.{made};
 ghost use Rattle.refusal.specs.First.{fault-told, told};
 ghost use Rattle.planfile.specs.Encoding.{encoding};
 ghost use Rattle.planfile.specs.Faults.{first-fault};
 ghost use Rattle.planfile.specs.Format.{Ranged};
-ghost use Rattle.planfile.specs.Reading.{counts-of, file-records, reading-refusal};
+ghost use Rattle.planfile.specs.Reading.{count-of, counts-of, file-records, links-of, reading-refusal};
 ghost use Rattle.planfile.specs.Records.{link-of, records-of};
+ghost use Rattle.planfile.specs.RoundTrip.{Holds};
+ghost use Rattle.planfile.specs.Sound.{Sound};
 use super::counts::Counts;
 use super::fields::Fields;
 use super::kind::FileKind;
@@ -21,11 +25,26 @@ use refusal::RecordFault;
 use refusal::Refusal;
 use refusal::RefusalFromRecord;
 
+// Reads a plan file into the list of links, and answers its counts.
+pub fn read<K: FileKind>(bytes: &[u8], list: &mut [Link<K>]) -> Result<Counts, Refusal>
+    ensures refused { λ r. ⌜ told r ≡ reading-refusal (K·FileKind .format) (length (now (list .entry))) (now (bytes .entry)) ⌝ }
+    ensures value { λ r. ⌜ made r (λ c. c ≡ counts-of (now (bytes .entry))) ⌝ }
+    ensures after { λ r. ⌜ now (list .exit) ≡ cond (isOk r) (links-of (K·Cost .kind) (K·Cost .formed) (now (bytes .entry)) ++ drop (count-of (now (bytes .entry))) (now (list .entry))) (now (list .entry)) ⌝ }
+    ensures holds { λ r. ⌜ made r (λ c. Holds (K·Cost .kind) (K·FileKind .format) (c .stations) (take (c .links) (now (list .exit))) (now (bytes .entry))) ⌝ }
+    ensures accepts { λ r. ⌜ ((n : ℕ) (xs : List Fields) → Sound (K·FileKind .format) n xs → 1 ≤ length (now (list .entry)) → length (now (list .entry)) ≤ 4096 → length xs ≤ length (now (list .entry)) → encoding (K·FileKind .format) n xs ≡ now (bytes .entry) → isOk r ≡ true) ⌝ }
+{
+    let range = K::link_range();
+    let counts = inspect::<K>(range, bytes, list.len())?;
+    store(counts.links, &bytes[10..], list);
+    Ok(counts)
+}
+
 // The counts of a file that a list of so many places can take, or the first refusal that fits.
 fn inspect<K: FileKind>(range: LinkRange, bytes: &[u8], places: usize) -> Result<Counts, Refusal>
     requires { ⌜ Ranged (K·Cost .kind) (K·Cost .formed) (K·FileKind .format) range ⌝ }
     ensures refused { λ r. ⌜ told r ≡ reading-refusal (K·FileKind .format) places (now (bytes .entry)) ⌝ }
     ensures value { λ r. ⌜ made r (λ c. c ≡ counts-of (now (bytes .entry))) ⌝ }
+    ensures fits { λ r. ⌜ made r (λ c. (length (now (bytes .entry)) ≡ 10 + 12 * c .links) × (c .links ≤ places)) ⌝ }
     ensures encoded { λ r. ⌜ made r (λ c. encoding (K·FileKind .format) (c .stations) (file-records (now (bytes .entry))) ≡ now (bytes .entry)) ⌝ }
 {
     if places < 1 || places > 4096 {

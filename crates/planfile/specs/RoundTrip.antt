@@ -1,0 +1,45 @@
+-- Both ways: what reading and writing are to each other.
+--
+--   Holds m f n links bs      the file bs holds the plan: it is its encoding, the plan is sound, and writing the plan
+--                             into any buffer that is long enough is not refused, so that it gives bs again
+--   ReadsBack f n xs bs       the file bs is read as n stations and records xs by any list that has places for them
+--   PlanFits n xs             the numbers fit the places that the format has for them
+--   Unambiguous f             different plans have different encodings
+use mathlib.Core.Path.{_≡_}
+use mathlib.Core.List.{List, map}
+use Prim.Native.Nat.{ℕ, _^_, _≤_, _<_}
+use lib.ListN.{length}
+use Rattle.std.specs.declared.option.Option.the-variants.{None}
+use Rattle.std.specs.shelf.Lists.{All}
+use Rattle.cost.specs.Kind.{Kind}
+use Rattle.cost.specs.declared.link.Link.{Link}
+use Rattle.planfile.specs.Encoding.{encoding, file-of}
+use Rattle.planfile.specs.Format.{Format}
+use Rattle.planfile.specs.Reading.{file-records, reading-refusal, stations-of}
+use Rattle.planfile.specs.Records.{fields-of}
+use Rattle.planfile.specs.Sound.{Sound}
+use Rattle.planfile.specs.Writing.{writing-refusal}
+use Rattle.planfile.specs.declared.fields.Fields.{Fields}
+
+pub record Holds {K : Type 0} (m : Kind K) (f : Format) (n : ℕ) (links : List (Link K)) (bs : List ℕ) : Type 0 where
+  pub encoded : file-of m f n links ≡ bs
+  pub sound : Sound f n (map (fields-of m) links)
+  pub writable : (room : ℕ) → length bs ≤ room → writing-refusal f n (map (fields-of m) links) room ≡ None
+
+pub record ReadsBack (f : Format) (n : ℕ) (xs : List Fields) (bs : List ℕ) : Type 0 where
+  pub accepted : (places : ℕ) → 1 ≤ places → places ≤ 4096 → length xs ≤ places → reading-refusal f places bs ≡ None
+  pub stations : stations-of bs ≡ n
+  pub records : file-records bs ≡ xs
+
+pub record FieldsFit (x : Fields) : Type 0 where
+  pub from : x .from < 2 ^ 16
+  pub to : x .to < 2 ^ 16
+  pub number : x .number < 2 ^ 64
+
+pub record PlanFits (n : ℕ) (xs : List Fields) : Type 0 where
+  pub stations : n < 2 ^ 16
+  pub count : length xs < 2 ^ 16
+  pub fields : All FieldsFit xs
+
+abbrev pub Unambiguous : Format → Type 0
+Unambiguous f = (n n′ : ℕ) (xs xs′ : List Fields) → PlanFits n xs → PlanFits n′ xs′ → encoding f n xs ≡ encoding f n′ xs′ → (n ≡ n′) × (xs ≡ xs′)
