@@ -7,7 +7,7 @@ use native.Mathlib.Omega.{arith}
 use lib.Dec.{ltb}
 use lib.ListN.{length, drop}
 use Rattle.std.proofs.shelf.Elements.{all-weaker}
-use Rattle.std.proofs.shelf.Tests.{false≢true, le-ltb, or-from}
+use Rattle.std.proofs.shelf.Tests.{false≢true, le-ltb}
 use Rattle.std.specs.Options.{Cases, isSome, mapped, valueOr}
 use Rattle.std.specs.Results.{isOk}
 use Rattle.std.specs.declared.option.Option.{Option}
@@ -32,6 +32,7 @@ use Rattle.planfile.specs.declared.fields.Fields.{Fields}
 use Rattle.planfile.specs.declared.kind.LinkRange.{LinkRange}
 use Rattle.planfile.proofs.FileBytes.{encoding-passes, length-encoding, records-read-back, stations-read-back}
 use Rattle.planfile.proofs.HeaderTests.{left-to-records}
+use Rattle.planfile.proofs.Ranges.{inside}
 use Rattle.planfile.proofs.RecordBytes.{length-records-of, same-fields}
 use Rattle.planfile.proofs.Soundness.{laid-from-none, none-from-laid, passes-from-none}
 
@@ -55,12 +56,12 @@ fits f n far few x h = record { from = omega (arith, h .from); to = omega (arith
 
 none-outside : (f : Format) (n k : ℕ) (xs : List Fields) → All (InRange f n) xs → first-outside f k xs ≡ None
 none-outside f n k [] all = refl
-none-outside f n k (x ∷ xs) all = rw (or-from (ltb (x .number) (f .low)) (ltb (f .high) (x .number)) (le-ltb (x .number) (f .low) (all .0 .low)) (le-ltb (f .high) (x .number) (all .0 .high))) (none-outside f n (k + 1) xs (all .1))
+none-outside f n k (x ∷ xs) all = rw (inside (f .low) (f .high) (x .number) (all .0 .low) (all .0 .high)) (none-outside f n (k + 1) xs (all .1))
 
 -- a sound plan may be written into any buffer that is long enough
 not-refused-to-write : (f : Format) (n : ℕ) (xs : List Fields) (room : ℕ) → Sound f n xs → 10 + 12 * length xs ≤ room → writing-refusal f n xs room ≡ None
 not-refused-to-write f n xs room sound enough =
-    rw (or-from (ltb n 1) (ltb 256 n) (le-ltb n 1 (sound .some)) (le-ltb 256 n (sound .few)), le-ltb 4096 (length xs) (sound .short), le-ltb room (10 + 12 * length xs) enough)
+    rw (inside 1 256 n (sound .some) (sound .few), le-ltb 4096 (length xs) (sound .short), le-ltb room (10 + 12 * length xs) enough)
     (none-outside f n 0 xs (in-range f n [] xs (sound .laid)))
 
 -- the encoding of a sound plan is accepted, and read as that plan

@@ -15,6 +15,7 @@ use Rattle.planfile.specs.Faults.{outside, first-fault}
 use Rattle.planfile.specs.Format.{Format}
 use Rattle.planfile.specs.Reading.{reading-refusal, faulty-record, file-records, stations-of, count-of, marked}
 use Rattle.planfile.specs.Records.{records-of}
+use Rattle.planfile.proofs.Ranges.{inside}
 
 pub record Passes (f : Format) (places : ℕ) (bs : List ℕ) : Type 0 where
   pub some-places : 1 ≤ places
@@ -29,9 +30,6 @@ pub record Passes (f : Format) (places : ℕ) (bs : List ℕ) : Type 0 where
   pub few-stations : stations-of bs ≤ 256
   pub enough-places : count-of bs ≤ places
   pub long : length bs ≡ 10 + 12 * count-of bs
-
-inside : (low high v : ℕ) → low ≤ v → v ≤ high → outside low high v ≡ false
-inside low high v le ge = grind (arith, tells)
 
 equal : (a b : ℕ) → a ≡ b → not (eqb a b) ≡ false
 equal a b e = grind (arith, tells)

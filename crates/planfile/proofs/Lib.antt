@@ -2,9 +2,12 @@ pub mod BothWays
 pub mod Codec
 pub mod FileBytes
 pub mod FirstFault
+pub mod FirstOutside
 pub mod HeaderTests
+pub mod Ranges
 pub mod RecordBytes
 pub mod Seen
 pub mod Soundness
 pub mod Stored
 pub mod Unseen
+pub mod WritingTests

@@ -7,7 +7,7 @@ use Prim.Native.Nat.{ℕ, _+_, _*_, _≤_, _<_}
 use native.Mathlib.Omega.{arith}
 use lib.Dec.{eqb, leb, ltb}
 use lib.ListN.{length, getD}
-use Rattle.std.proofs.shelf.Tests.{and-from, and-left, and-parts, and-right, both-ways, cases-eq, eq-eqb, eqb-false, eqb-true, le-ltb, leb-false, lt-leb, ltb-false, ne-eqb, not-false, or-from, or-parts}
+use Rattle.std.proofs.shelf.Tests.{and-from, and-left, and-parts, and-right, both-ways, cases-eq, eq-eqb, eqb-false, eqb-true, leb-false, lt-leb, ltb-false, ne-eqb, not-false, or-from, or-parts}
 use Rattle.std.specs.Options.{mapped}
 use Rattle.std.specs.declared.option.Option.{Option}
 use Rattle.std.specs.declared.option.Option.the-variants.{Some, None}
@@ -21,6 +21,7 @@ use Rattle.planfile.specs.Reading.{reading-refusal, faulty-record, file-record
 use Rattle.planfile.specs.Sound.{Differs, LinkSound, Laid}
 use Rattle.planfile.specs.declared.fields.Fields.{Fields}
 use Rattle.planfile.proofs.HeaderTests.{Passes}
+use Rattle.planfile.proofs.Ranges.{bounds, inside}
 
 -- a test that refuses nothing fails, and leaves the rest
 not-refused : {A : Type 0} (test : Bool) (c : A) (rest : Option A) → refused-if test c rest ≡ None → (test ≡ false) × (rest ≡ None)
@@ -35,9 +36,6 @@ none-of-both : {A : Type 0} (o p : Option A) → or-else o p ≡ None → (o ≡
 none-of-both None p e = (refl, e)
 none-of-both (Some x) p e = let z : _≡_ {A = ℕ} 0 1 = cc in absurd (omega arith)
 
-inside : (low high v : ℕ) → outside low high v ≡ false → (low ≤ v) × (v ≤ high)
-inside low high v e = let p = or-parts (ltb v low) (ltb high v) e in (ltb-false v low (p .0), ltb-false high v (p .1))
-
 equal : (a b : ℕ) → not (eqb a b) ≡ false → a ≡ b
 equal a b e = eqb-true a b (not-false (eqb a b) e)
 
@@ -50,11 +48,11 @@ passes-from-none f places bs e₀ =
     let e₁₈ = not-refused (not (eqb (getD bs 5 0) (f .byte))) _ _ (e₁₇ .1) in
     let e₁₉ = not-refused (outside 1 256 (stations-of bs) || ltb places (count-of bs)) _ _ (e₁₈ .1) in
     let e₂₀ = not-refused (not (eqb (length bs) (10 + 12 * count-of bs))) _ _ (e₁₉ .1) in
-    let places-in = inside 1 4096 places (e₂ .0) in
+    let places-in = bounds 1 4096 places (e₂ .0) in
     let mark-in = and-parts (eqb (getD bs 0 0) 67) (eqb (getD bs 1 0) 80 && eqb (getD bs 2 0) 76) (not-false (marked bs) (e₁₆ .0)) in
     let mark-rest = and-parts (eqb (getD bs 1 0) 80) (eqb (getD bs 2 0) 76) (mark-in .1) in
     let counts-in = or-parts (outside 1 256 (stations-of bs)) (ltb places (count-of bs)) (e₁₉ .0) in
-    let stations-in = inside 1 256 (stations-of bs) (counts-in .0) in (
+    let stations-in = bounds 1 256 (stations-of bs) (counts-in .0) in (
       record {
         some-places = places-in .0;
         few-places = places-in .1;
@@ -97,7 +95,7 @@ sound-from-none f n k earlier x e₀ =
     let e₃ = not-refused (leb n (x .from) || leb n (x .to)) _ _ (e₂₁ .1) in
     let e₄ = not-refused (eqb (x .from) (x .to)) _ _ (e₃ .1) in
     let e₆ = not-refused (repeats earlier x) _ _ (e₄ .1) in
-    let cost-in = inside (f .low) (f .high) (x .number) (e₂₁ .0) in
+    let cost-in = bounds (f .low) (f .high) (x .number) (e₂₁ .0) in
     let stations-in = or-parts (leb n (x .from)) (leb n (x .to)) (e₃ .0) in
     record {
       low = cost-in .0;
@@ -111,7 +109,7 @@ sound-from-none f n k earlier x e₀ =
 none-from-sound : (f : Format) (n k : ℕ) (earlier : List Fields) (x : Fields) → LinkSound f n earlier x → fault f n k (repeats earlier x) x ≡ None
 none-from-sound f n k earlier x sound =
     rw (
-      or-from (ltb (x .number) (f .low)) (ltb (f .high) (x .number)) (le-ltb (x .number) (f .low) (sound .low)) (le-ltb (f .high) (x .number) (sound .high)),
+      inside (f .low) (f .high) (x .number) (sound .low) (sound .high),
       or-from (leb n (x .from)) (leb n (x .to)) (lt-leb n (x .from) (sound .from)) (lt-leb n (x .to) (sound .to)),
       ne-eqb (x .from) (x .to) (sound .apart),
       none-from-differs earlier x (sound .new),

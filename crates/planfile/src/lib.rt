@@ -6,8 +6,9 @@ mod field;
 mod fields;
 mod kind;
 mod pairs;
-mod read;
+mod reading;
 mod record;
+mod writing;
 
 pub use counts::Counts;
 pub use fields::Fields;
@@ -15,3 +16,4 @@ pub use kind::FileKind;
 pub use kind::LinkRange;
 pub use kind::SplitFile;
 pub use kind::SumFile;
+pub use reading::read;

@@ -1,12 +1,14 @@
 -- The numbering of refusals: each case with its number and the facts that it names.
 --
 --   bare n           number n, and nothing besides
+--   field-code f     what a faulty field tells by itself: 21 and its record
 --   fault-code f     what a faulty record tells: the index of its record, the fault's own number, and the fault's layer
 --   code-of r        the number and facts of a refusal
 use Prim.Native.Nat.{ℕ}
 use Rattle.refusal.specs.declared.Code.{Code}
 use Rattle.refusal.specs.declared.Facts.{Facts}
 use Rattle.refusal.specs.declared.Facts.the-variants.{Bare, AtRecord, Below}
+use Rattle.refusal.specs.declared.FieldFault.{FieldFault}
 use Rattle.refusal.specs.declared.Layer.the-variants as layer
 use Rattle.refusal.specs.declared.RecordFault.{RecordFault}
 use Rattle.refusal.specs.declared.RecordFault.the-variants as fault
@@ -15,6 +17,9 @@ use Rattle.refusal.specs.declared.Refusal.the-variants as refusal
 
 abbrev pub bare : ℕ → Code
 bare n = record { number = n; facts = Bare }
+
+abbrev pub field-code : FieldFault → Code
+field-code f = record { number = 21; facts = AtRecord (f .index) }
 
 abbrev pub fault-code : RecordFault → Facts
 fault-code (fault.Field f) = Below (f .index) 21 layer.Field
@@ -33,5 +38,5 @@ code-of refusal.Kind = bare 18
 code-of refusal.Counts = bare 19
 code-of refusal.Length = bare 20
 code-of refusal.NoCost = bare 21
-code-of (refusal.Field f) = record { number = 21; facts = AtRecord (f .index) }
+code-of (refusal.Field f) = field-code f
 code-of (refusal.Record f) = record { number = 22; facts = fault-code f }

@@ -11,7 +11,7 @@ use Rattle.planfile.specs.Records.{records-of}
 use Rattle.planfile.proofs.FirstFault.{fault-here, no-fault-here, holds-here}
 use Rattle.planfile.proofs.RecordBytes.{length-records-of, record-here}
 use Rattle.planfile.proofs.Seen.{Holds, place}
-use Rattle.planfile.proofs.read.check_records.Needs as need
+use Rattle.planfile.proofs.reading.check_records.Needs as need
 
 within : (count : ℕ) (bs : List ℕ) (i : ℕ) → i < count → i < length (records-of count bs)
 within count bs i below = omega (arith, length-records-of count bs)

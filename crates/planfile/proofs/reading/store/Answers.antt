@@ -8,7 +8,7 @@ use Rattle.std.proofs.shelf.Lists.{length-map, length-take-le, map-push, take-a
 use Rattle.planfile.specs.Records.{link-of, records-of}
 use Rattle.planfile.proofs.RecordBytes.{length-records-of, record-here}
 use Rattle.planfile.proofs.Stored.{stored-more}
-use Rattle.planfile.proofs.read.store.Needs as need
+use Rattle.planfile.proofs.reading.store.Needs as need
 
 pub loop-index-again : need.loop-index-again
 loop-index-again g c =

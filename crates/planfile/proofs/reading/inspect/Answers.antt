@@ -9,7 +9,7 @@ use Rattle.planfile.specs.Encoding.{encoding}
 use Rattle.planfile.specs.Reading.{count-of, file-records, stations-of}
 use Rattle.planfile.proofs.FileBytes.{file-is-encoding}
 use Rattle.planfile.proofs.HeaderTests.{Passes, verdict}
-use Rattle.planfile.proofs.read.inspect.Needs as need
+use Rattle.planfile.proofs.reading.inspect.Needs as need
 
 pub returns-in-Break-check-records : need.returns-in-Break-check-records
 returns-in-Break-check-records g c =

@@ -11,7 +11,7 @@ use Rattle.planfile.specs.Records.{link-of, records-of}
 use Rattle.planfile.specs.RoundTrip.{Holds}
 use Rattle.planfile.proofs.BothWays.{accepted, file-holds, ok-from-told}
 use Rattle.planfile.proofs.RecordBytes.{length-records-of}
-use Rattle.planfile.proofs.read.read.Needs as need
+use Rattle.planfile.proofs.reading.read.Needs as need
 
 pub returns-in-Break-counts : need.returns-in-Break-counts
 returns-in-Break-counts g c =

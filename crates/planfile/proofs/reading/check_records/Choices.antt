@@ -5,7 +5,7 @@ use lib.ListN.{take, drop}
 use Rattle.planfile.specs.Faults.{first-fault}
 use Rattle.planfile.specs.Records.{records-of}
 use Rattle.planfile.proofs.Seen.{Holds}
-use Rattle.planfile.proofs.read.check_records.Given as given
+use Rattle.planfile.proofs.reading.check_records.Given as given
 
 abbrev pub Inv-loop-index : given.InvT-loop-index
 Inv-loop-index g l =

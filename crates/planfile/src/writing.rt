@@ -1,0 +1,97 @@
+// The file layer, writing: a header, then a record for each link, into a buffer.
+ghost use mathlib.Core.Path.{_≡_};
+ghost use mathlib.Core.Bool.{cond};
+ghost use mathlib.Core.List.{map, _++_};
+ghost use Prim.Native.Nat.{_+_, _*_, _≤_};
+ghost use lib.ListN.{drop, length, take};
+ghost use Rattle.std.specs.Joined.{joined};
+ghost use Rattle.std.specs.Results.{isOk};
+ghost use Rattle.std.specs.Vec.{made};
+ghost use Rattle.refusal.specs.First.{field-told, told};
+ghost use Rattle.planfile.specs.Encoding.{file-of, header};
+ghost use Rattle.planfile.specs.Format.{Ranged};
+ghost use Rattle.planfile.specs.Records.{field-bytes, fields-of};
+ghost use Rattle.planfile.specs.Writing.{first-outside, writing-refusal};
+use super::kind::FileKind;
+use super::kind::LinkRange;
+use cost::Link;
+use refusal::FieldFault;
+use refusal::Refusal;
+use refusal::RefusalFromField;
+
+// The first link whose cost is outside the range is a fault of its record.
+fn check_costs<K: FileKind>(range: LinkRange, links: &[Link<K>]) -> Result<(), FieldFault>
+    requires ranged { ⌜ Ranged (K·Cost .kind) (K·Cost .formed) (K·FileKind .format) range ⌝ }
+    requires few { ⌜ length (now links) ≤ 4096 ⌝ }
+    ensures refused { λ r. ⌜ field-told r ≡ first-outside (K·FileKind .format) 0 (map (fields-of (K·Cost .kind)) (now (links .entry))) ⌝ }
+{
+    for (index, link) in links.iter().enumerate() {
+        let number = link.cost.rank();
+        if number < range.low || number > range.high {
+            return Err(FieldFault {
+                index: index as u16,
+            });
+        }
+    }
+    Ok(())
+}
+
+// The length of the plan's file, or the first refusal that fits a buffer of so many bytes.
+fn measure<K: FileKind>(range: LinkRange, stations: u16, links: &[Link<K>], room: usize) -> Result<usize, Refusal>
+    requires { ⌜ Ranged (K·Cost .kind) (K·Cost .formed) (K·FileKind .format) range ⌝ }
+    ensures refused { λ r. ⌜ told r ≡ writing-refusal (K·FileKind .format) stations (map (fields-of (K·Cost .kind)) (now (links .entry))) room ⌝ }
+    ensures value { λ r. ⌜ made r (λ l. (l ≡ 10 + 12 * length (now (links .entry))) × (l ≤ room) × (length (now (links .entry)) ≤ 4096)) ⌝ }
+{
+    if stations < 1 || stations > 256 {
+        return Err(Refusal::StationCount);
+    }
+    if links.len() > 4096 {
+        return Err(Refusal::Places);
+    }
+    let len = 10 + 12 * links.len();
+    if room < len {
+        return Err(Refusal::ShortBuffer);
+    }
+    check_costs(range, links)?;
+    Ok(len)
+}
+
+// The ten bytes before the records.
+fn header_bytes<K: FileKind>(stations: u16, links: u16) -> [u8; 10]
+    ensures value { λ r. ⌜ r ≡ header (K·FileKind .format) stations links ⌝ }
+{
+    let kind = K::kind_byte();
+    let [n1, n0] = stations.to_be_bytes();
+    let [k1, k0] = links.to_be_bytes();
+    [b'C', b'P', b'L', 0, 1, kind, n1, n0, k1, k0]
+}
+
+// The twelve bytes of a link's record.
+fn record_bytes<K: FileKind>(link: &Link<K>) -> [u8; 12]
+    ensures value { λ r. ⌜ r ≡ field-bytes (fields-of (K·Cost .kind) (now (link .entry))) ⌝ }
+{
+    let [f1, f0] = link.from.to_be_bytes();
+    let [t1, t0] = link.to.to_be_bytes();
+    let [c7, c6, c5, c4, c3, c2, c1, c0] = link.cost.rank().to_be_bytes();
+    [f1, f0, t1, t0, c7, c6, c5, c4, c3, c2, c1, c0]
+}
+
+// Copies a part into the buffer at a place.
+fn paste(buffer: &mut [u8], at: usize, part: &[u8])
+    requires { ⌜ at + length (now part) ≤ length (now buffer) ⌝ }
+    ensures after { λ _. ⌜ now (buffer .exit) ≡ take at (now (buffer .entry)) ++ (now (part .entry) ++ drop (at + length (now (part .entry))) (now (buffer .entry))) ⌝ }
+{
+    let end = at + part.len();
+    buffer[at..end].copy_from_slice(part);
+}
+
+// Writes the records after the header's ten bytes.
+fn write_records<K: FileKind>(links: &[Link<K>], buffer: &mut [u8])
+    requires few { ⌜ length (now links) ≤ 4096 ⌝ }
+    requires room { ⌜ 10 + 12 * length (now links) ≤ length (now buffer) ⌝ }
+    ensures after { λ _. ⌜ now (buffer .exit) ≡ (take 10 (now (buffer .entry)) ++ joined field-bytes (map (fields-of (K·Cost .kind)) (now (links .entry)))) ++ drop (10 + 12 * length (now (links .entry))) (now (buffer .entry)) ⌝ }
+{
+    for (index, link) in links.iter().enumerate() {
+        paste(buffer, 10 + 12 * index, &record_bytes(link));
+    }
+}
