@@ -7,6 +7,7 @@ use native.Mathlib.Omega.{arith}
 use lib.Dec.{ltb}
 use lib.ListN.{length, drop}
 use Rattle.std.proofs.shelf.Elements.{all-weaker}
+use Rattle.std.proofs.shelf.Lists.{length-map}
 use Rattle.std.proofs.shelf.Tests.{false≢true, le-ltb}
 use Rattle.std.specs.Options.{Cases, isSome, mapped, valueOr}
 use Rattle.std.specs.Results.{isOk}
@@ -30,7 +31,7 @@ use Rattle.planfile.specs.Sound.{Laid, LinkSound, Sound}
 use Rattle.planfile.specs.Writing.{first-outside, writing-refusal}
 use Rattle.planfile.specs.declared.fields.Fields.{Fields}
 use Rattle.planfile.specs.declared.kind.LinkRange.{LinkRange}
-use Rattle.planfile.proofs.FileBytes.{encoding-passes, length-encoding, records-read-back, stations-read-back}
+use Rattle.planfile.proofs.FileBytes.{count-read-back, encoding-passes, length-encoding, records-read-back, stations-read-back}
 use Rattle.planfile.proofs.HeaderTests.{left-to-records}
 use Rattle.planfile.proofs.Ranges.{inside}
 use Rattle.planfile.proofs.RecordBytes.{length-records-of, same-fields}
@@ -100,3 +101,25 @@ module _ {K : Type 0} (m : Kind K) (formed : ℕ → Option K) (numbered : Forms
         sound = subst⁻¹ (Sound f n) again sound;
         writable = λ room enough. ap (λ ys. writing-refusal f n ys room) again ∙ not-refused-to-write f n xs room sound (omega (arith, length-encoding f n xs, ap length whole));
       }
+
+  -- the encoding of a sound plan reads back
+  pub reads-back : (f : Format) (r : LinkRange) → Ranged m formed f r → (n : ℕ) (links : List (Link K)) → Sound f n (map (fields-of m) links) → ReadsBack m formed f n links (file-of m f n links)
+  reads-back f r ranged n links sound =
+      let xs = map (fields-of m) links in
+      let count = length-map links (fields-of m) in
+      let all = in-range f n [] xs (sound .laid) in
+      let fit = all-weaker (InRange f n) FieldsFit (fits f n (ranged .far-out) (sound .few)) xs all in
+      let few : length xs < 65536 = omega (arith, sound .short) in
+      record {
+        accepted = λ places some up enough. accepted f n xs places (ranged .byte-fits) (ranged .far-out) sound some up (omega (arith, count));
+        stations = stations-read-back f n xs (omega (arith, sound .few));
+        count = count-read-back f n xs few ∙ count;
+        same = ap (λ ys. map (fields-of m) (map (link-of m formed) ys)) (records-read-back f n xs few fit) ∙ fields-again f r n ranged xs all;
+      }
+
+-- a plan that fits the format can be told from its encoding
+pub unambiguous : (f : Format) → Unambiguous f
+unambiguous f n n′ xs xs′ fit fit′ same = (
+  sym (stations-read-back f n xs (fit .stations)) ∙ ap stations-of same ∙ stations-read-back f n′ xs′ (fit′ .stations),
+  sym (records-read-back f n xs (fit .count) (fit .fields)) ∙ ap file-records same ∙ records-read-back f n′ xs′ (fit′ .count) (fit′ .fields),
+)

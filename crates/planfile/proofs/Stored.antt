@@ -17,3 +17,10 @@ pasted-more new old part i long =
     ap₂ (λ front back. front ++ (part ++ back)) (take-at new (drop i old) i long)
     (sym (drop-drop (length part) i (new ++ drop i old)) ∙ ap (drop (length part)) (drop-at new (drop i old) i long) ∙ drop-drop (length part) i old)
     ∙ sym (append-assoc new part (drop (i + length part) old))
+
+-- a part after the front of i elements, which has been written
+pub assembled : {X : Type 0} (front part old now : List X) (i k : ℕ) → length front ≡ i → now ≡ front ++ drop i old → (take i now ++ part) ++ drop (i + k) now ≡ (front ++ part) ++ drop (i + k) old
+assembled front part old now i k long is =
+    ap (λ l. (take i l ++ part) ++ drop (i + k) l) is
+    ∙ ap₂ (λ a b. (a ++ part) ++ b) (take-at front (drop i old) i long)
+    (sym (drop-drop k i (front ++ drop i old)) ∙ ap (drop k) (drop-at front (drop i old) i long) ∙ drop-drop k i old)

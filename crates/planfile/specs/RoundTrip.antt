@@ -2,20 +2,24 @@
 --
 --   Holds m f n links bs      the file bs holds the plan: it is its encoding, the plan is sound, and writing the plan
 --                             into any buffer that is long enough is not refused, so that it gives bs again
---   ReadsBack f n xs bs       the file bs is read as n stations and records xs by any list that has places for them
+--   SameLinks m ls ls′        the same links in the same order: the same stations and the same costs
+--   ReadsBack m formed f n links bs
+--                             the file bs is accepted by any list that has places for its links, and is read as the
+--                             same number of stations and the same links
 --   PlanFits n xs             the numbers fit the places that the format has for them
 --   Unambiguous f             different plans have different encodings
 use mathlib.Core.Path.{_≡_}
 use mathlib.Core.List.{List, map}
 use Prim.Native.Nat.{ℕ, _^_, _≤_, _<_}
 use lib.ListN.{length}
+use Rattle.std.specs.declared.option.Option.{Option}
 use Rattle.std.specs.declared.option.Option.the-variants.{None}
 use Rattle.std.specs.shelf.Lists.{All}
 use Rattle.cost.specs.Kind.{Kind}
 use Rattle.cost.specs.declared.link.Link.{Link}
 use Rattle.planfile.specs.Encoding.{encoding, file-of}
 use Rattle.planfile.specs.Format.{Format}
-use Rattle.planfile.specs.Reading.{file-records, reading-refusal, stations-of}
+use Rattle.planfile.specs.Reading.{count-of, links-of, reading-refusal, stations-of}
 use Rattle.planfile.specs.Records.{fields-of}
 use Rattle.planfile.specs.Sound.{Sound}
 use Rattle.planfile.specs.Writing.{writing-refusal}
@@ -26,10 +30,14 @@ pub record Holds {K : Type 0} (m : Kind K) (f : Format) (n : ℕ) (links : List 
   pub sound : Sound f n (map (fields-of m) links)
   pub writable : (room : ℕ) → length bs ≤ room → writing-refusal f n (map (fields-of m) links) room ≡ None
 
-pub record ReadsBack (f : Format) (n : ℕ) (xs : List Fields) (bs : List ℕ) : Type 0 where
-  pub accepted : (places : ℕ) → 1 ≤ places → places ≤ 4096 → length xs ≤ places → reading-refusal f places bs ≡ None
+abbrev pub SameLinks : {K : Type 0} → Kind K → List (Link K) → List (Link K) → Type 0
+SameLinks m ls ls′ = map (fields-of m) ls ≡ map (fields-of m) ls′
+
+pub record ReadsBack {K : Type 0} (m : Kind K) (formed : ℕ → Option K) (f : Format) (n : ℕ) (links : List (Link K)) (bs : List ℕ) : Type 0 where
+  pub accepted : (places : ℕ) → 1 ≤ places → places ≤ 4096 → length links ≤ places → reading-refusal f places bs ≡ None
   pub stations : stations-of bs ≡ n
-  pub records : file-records bs ≡ xs
+  pub count : count-of bs ≡ length links
+  pub same : SameLinks m (links-of m formed bs) links
 
 pub record FieldsFit (x : Fields) : Type 0 where
   pub from : x .from < 2 ^ 16

@@ -17,3 +17,4 @@ pub use kind::LinkRange;
 pub use kind::SplitFile;
 pub use kind::SumFile;
 pub use reading::read;
+pub use writing::write;

@@ -11,6 +11,8 @@ ghost use Rattle.refusal.specs.First.{field-told, told};
 ghost use Rattle.planfile.specs.Encoding.{file-of, header};
 ghost use Rattle.planfile.specs.Format.{Ranged};
 ghost use Rattle.planfile.specs.Records.{field-bytes, fields-of};
+ghost use Rattle.planfile.specs.RoundTrip.{ReadsBack, Unambiguous};
+ghost use Rattle.planfile.specs.Sound.{Sound};
 ghost use Rattle.planfile.specs.Writing.{first-outside, writing-refusal};
 use super::kind::FileKind;
 use super::kind::LinkRange;
@@ -18,6 +20,25 @@ use cost::Link;
 use refusal::FieldFault;
 use refusal::Refusal;
 use refusal::RefusalFromField;
+
+// Writes the plan's file at the start of the buffer, and answers its length.
+pub fn write<K: FileKind>(
+    stations: u16,
+    links: &[Link<K>],
+    buffer: &mut [u8],
+) -> Result<usize, Refusal>
+    ensures refused { λ r. ⌜ told r ≡ writing-refusal (K·FileKind .format) stations (map (fields-of (K·Cost .kind)) (now (links .entry))) (length (now (buffer .entry))) ⌝ }
+    ensures value { λ r. ⌜ made r (λ l. l ≡ length (file-of (K·Cost .kind) (K·FileKind .format) stations (now (links .entry)))) ⌝ }
+    ensures after { λ r. ⌜ now (buffer .exit) ≡ cond (isOk r) (file-of (K·Cost .kind) (K·FileKind .format) stations (now (links .entry)) ++ drop (length (file-of (K·Cost .kind) (K·FileKind .format) stations (now (links .entry)))) (now (buffer .entry))) (now (buffer .entry)) ⌝ }
+    ensures reads_back { λ r. ⌜ made r (λ l. Sound (K·FileKind .format) stations (map (fields-of (K·Cost .kind)) (now (links .entry))) → ReadsBack (K·Cost .kind) (K·Cost .formed) (K·FileKind .format) stations (now (links .entry)) (take l (now (buffer .exit)))) ⌝ }
+    ensures unambiguous { λ _. ⌜ Unambiguous (K·FileKind .format) ⌝ }
+{
+    let range = K::link_range();
+    let len = measure(range, stations, links, buffer.len())?;
+    paste(buffer, 0, &header_bytes::<K>(stations, links.len() as u16));
+    write_records(links, buffer);
+    Ok(len)
+}
 
 // The first link whose cost is outside the range is a fault of its record.
 fn check_costs<K: FileKind>(range: LinkRange, links: &[Link<K>]) -> Result<(), FieldFault>
@@ -37,7 +58,12 @@ fn check_costs<K: FileKind>(range: LinkRange, links: &[Link<K>]) -> Result<(), F
 }
 
 // The length of the plan's file, or the first refusal that fits a buffer of so many bytes.
-fn measure<K: FileKind>(range: LinkRange, stations: u16, links: &[Link<K>], room: usize) -> Result<usize, Refusal>
+fn measure<K: FileKind>(
+    range: LinkRange,
+    stations: u16,
+    links: &[Link<K>],
+    room: usize,
+) -> Result<usize, Refusal>
     requires { ⌜ Ranged (K·Cost .kind) (K·Cost .formed) (K·FileKind .format) range ⌝ }
     ensures refused { λ r. ⌜ told r ≡ writing-refusal (K·FileKind .format) stations (map (fields-of (K·Cost .kind)) (now (links .entry))) room ⌝ }
     ensures value { λ r. ⌜ made r (λ l. (l ≡ 10 + 12 * length (now (links .entry))) × (l ≤ room) × (length (now (links .entry)) ≤ 4096)) ⌝ }
