@@ -27,7 +27,7 @@ pub trait FileKind: Cost {
         ensures value { λ r. ⌜ r ≡ format .byte ⌝ };
 
     // The word that names the kind in what programs print.
-    fn word<'a>() -> &'a str
+    fn word() -> &'static str
         ensures value { λ r. ⌜ now r ≡ format .word ⌝ };
 
     // The range of link costs: it leaves out zero and FAR, and each number in it forms a cost.
@@ -49,7 +49,7 @@ pub impl FileKind for Sum as SumFile {
         Self::BYTE
     }
 
-    fn word<'a>() -> &'a str {
+    fn word() -> &'static str {
         "sum"
     }
 
@@ -69,7 +69,7 @@ pub impl FileKind for Split as SplitFile {
         Self::BYTE
     }
 
-    fn word<'a>() -> &'a str {
+    fn word() -> &'static str {
         "split"
     }
 
