@@ -26,7 +26,7 @@ pub impl Cost for Sum as SumCost {
 
     fn join(self, other: Sum) -> Sum {
         Sum {
-            picoseconds: self.picoseconds.saturating_add(other.picoseconds),
+            picoseconds: self.rank().saturating_add(other.rank()),
         }
     }
 

@@ -104,7 +104,10 @@ fn read_case<K: FileKind>(heap: Global, places: usize, bytes: &[u8]) -> Result<S
     format!(heap, "ok {stations} {links} {same}")
 }
 
-fn parse_links<K: FileKind>(heap: Global, text: &str) -> Result<Result<Vec<Link<K>>, Refusal>, AnyError> {
+fn parse_links<K: FileKind>(
+    heap: Global,
+    text: &str,
+) -> Result<Result<Vec<Link<K>>, Refusal>, AnyError> {
     let mut links = Vec::new(heap);
     if text == "none" {
         return Ok(Ok(links));
@@ -122,7 +125,12 @@ fn parse_links<K: FileKind>(heap: Global, text: &str) -> Result<Result<Vec<Link<
     Ok(Ok(links))
 }
 
-fn write_case<K: FileKind>(heap: Global, stations: u16, room: usize, text: &str) -> Result<String, AnyError> {
+fn write_case<K: FileKind>(
+    heap: Global,
+    stations: u16,
+    room: usize,
+    text: &str,
+) -> Result<String, AnyError> {
     let links = match parse_links::<K>(heap, text)? {
         Ok(links) => links,
         Err(refusal) => return Ok(refused(heap, refusal)?),
@@ -150,7 +158,13 @@ fn form_case<K: FileKind>(heap: Global, number: u64) -> Result<String, AllocErro
     }
 }
 
-fn case<K: FileKind>(heap: Global, call: &str, first: &str, second: &str, third: &str) -> Result<String, AnyError> {
+fn case<K: FileKind>(
+    heap: Global,
+    call: &str,
+    first: &str,
+    second: &str,
+    third: &str,
+) -> Result<String, AnyError> {
     if call == "read" {
         let bytes = from_hex(heap, second)?;
         return Ok(read_case::<K>(heap, first.parse::<usize>()?, bytes.as_slice())?);

@@ -119,9 +119,10 @@ impl RecordFault {
 }
 
 impl Refusal {
-    // The refusal's number and facts.
+    // The refusal's number and facts, from which it can be told.
     pub fn code(self) -> Code
         ensures value { λ r. ⌜ r ≡ code-of self ⌝ }
+        ensures distinct { λ _. ⌜ ((other : Refusal) → code-of other ≡ code-of self → other ≡ self) ⌝ }
     {
         match self {
             Refusal::StationCount => bare(1),
@@ -138,9 +139,9 @@ impl Refusal {
                 number: 21,
                 facts: Facts::AtRecord(index),
             },
-            Refusal::Record(fault) => Code {
+            Refusal::Record(below) => Code {
                 number: 22,
-                facts: fault.facts(),
+                facts: below.facts(),
             },
         }
     }
