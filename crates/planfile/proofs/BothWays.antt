@@ -4,11 +4,10 @@ use mathlib.Core.Bool.{true, false}
 use mathlib.Core.List.{List, [], _∷_, _++_, map}
 use Prim.Native.Nat.{ℕ, _+_, _*_, _≤_, _<_}
 use native.Mathlib.Omega.{arith}
-use lib.Dec.{ltb}
 use lib.ListN.{length, drop}
 use Rattle.std.proofs.shelf.Elements.{all-weaker}
 use Rattle.std.proofs.shelf.Lists.{length-map}
-use Rattle.std.proofs.shelf.Tests.{false≢true, le-ltb}
+use Rattle.std.proofs.shelf.Tests.{false≢true}
 use Rattle.std.specs.Options.{Cases, isSome, mapped, valueOr}
 use Rattle.std.specs.Results.{isOk}
 use Rattle.std.specs.declared.option.Option.{Option}
@@ -28,7 +27,7 @@ use Rattle.planfile.specs.Reading.{faulty-record, file-records, links-of, read
 use Rattle.planfile.specs.Records.{fields-of, link-of}
 use Rattle.planfile.specs.RoundTrip.{FieldsFit, Holds, PlanFits, ReadsBack, Unambiguous}
 use Rattle.planfile.specs.Sound.{Laid, LinkSound, Sound}
-use Rattle.planfile.specs.Writing.{first-outside, writing-refusal}
+use Rattle.planfile.specs.Writing.{first-outside}
 use Rattle.planfile.specs.declared.fields.Fields.{Fields}
 use Rattle.planfile.specs.declared.kind.LinkRange.{LinkRange}
 use Rattle.planfile.proofs.FileBytes.{count-read-back, encoding-passes, length-encoding, records-read-back, stations-read-back}
@@ -36,6 +35,7 @@ use Rattle.planfile.proofs.HeaderTests.{left-to-records}
 use Rattle.planfile.proofs.Ranges.{inside}
 use Rattle.planfile.proofs.RecordBytes.{length-records-of, same-fields}
 use Rattle.planfile.proofs.Soundness.{laid-from-none, none-from-laid, passes-from-none}
+use Rattle.planfile.proofs.WritingTests.{left-to-costs}
 
 pub ok-from-told : {T : Type 0} (r : Result T Refusal) → told r ≡ None → isOk r ≡ true
 ok-from-told (Ok x) e = refl
@@ -58,12 +58,6 @@ fits f n far few x h = record { from = omega (arith, h .from); to = omega (arith
 none-outside : (f : Format) (n k : ℕ) (xs : List Fields) → All (InRange f n) xs → first-outside f k xs ≡ None
 none-outside f n k [] all = refl
 none-outside f n k (x ∷ xs) all = rw (inside (f .low) (f .high) (x .number) (all .0 .low) (all .0 .high)) (none-outside f n (k + 1) xs (all .1))
-
--- a sound plan may be written into any buffer that is long enough
-not-refused-to-write : (f : Format) (n : ℕ) (xs : List Fields) (room : ℕ) → Sound f n xs → 10 + 12 * length xs ≤ room → writing-refusal f n xs room ≡ None
-not-refused-to-write f n xs room sound enough =
-    rw (inside 1 256 n (sound .some) (sound .few), le-ltb 4096 (length xs) (sound .short), le-ltb room (10 + 12 * length xs) enough)
-    (none-outside f n 0 xs (in-range f n [] xs (sound .laid)))
 
 -- the encoding of a sound plan is accepted, and read as that plan
 pub accepted : (f : Format) (n : ℕ) (xs : List Fields) (places : ℕ) → f .byte < 256 → f .high < FAR → Sound f n xs → 1 ≤ places → places ≤ 4096 → length xs ≤ places → reading-refusal f places (encoding f n xs) ≡ None
@@ -95,11 +89,12 @@ module _ {K : Type 0} (m : Kind K) (formed : ℕ → Option K) (numbered : Forms
       let p = passes-from-none f places bs none in
       let laid = laid-from-none f n [] xs (p .1) in
       let again = fields-again f r n ranged xs (in-range f n [] xs laid) in
+      let count = length-map xs (link-of m formed) in
       let sound : Sound f n xs = record { some = p .0 .some-stations; few = p .0 .few-stations; short = omega (arith, length-records-of (count-of bs) (drop 10 bs), p .0 .enough-places, p .0 .few-places); laid = laid } in
       record {
         encoded = ap (encoding f n) again ∙ whole;
         sound = subst⁻¹ (Sound f n) again sound;
-        writable = λ room enough. ap (λ ys. writing-refusal f n ys room) again ∙ not-refused-to-write f n xs room sound (omega (arith, length-encoding f n xs, ap length whole));
+        writable = λ room enough. sym (left-to-costs m f n (links-of m formed bs) room (sound .some) (sound .few) (omega (arith, count, sound .short)) (omega (arith, count, length-encoding f n xs, ap length whole))) ∙ ap (first-outside f 0) again ∙ none-outside f n 0 xs (in-range f n [] xs laid);
       }
 
   -- the encoding of a sound plan reads back

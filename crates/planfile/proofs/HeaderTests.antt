@@ -13,23 +13,10 @@ use Rattle.refusal.specs.declared.Facts.{Facts}
 use Rattle.planfile.specs.Bytes.{number-at}
 use Rattle.planfile.specs.Faults.{outside, first-fault}
 use Rattle.planfile.specs.Format.{Format}
+use Rattle.planfile.specs.Header.{Passes}
 use Rattle.planfile.specs.Reading.{reading-refusal, faulty-record, file-records, stations-of, count-of, marked}
 use Rattle.planfile.specs.Records.{records-of}
 use Rattle.planfile.proofs.Ranges.{inside}
-
-pub record Passes (f : Format) (places : ℕ) (bs : List ℕ) : Type 0 where
-  pub some-places : 1 ≤ places
-  pub few-places : places ≤ 4096
-  pub header : 10 ≤ length bs
-  pub mark-0 : getD bs 0 0 ≡ 67
-  pub mark-1 : getD bs 1 0 ≡ 80
-  pub mark-2 : getD bs 2 0 ≡ 76
-  pub version : number-at 2 bs 3 ≡ 1
-  pub kind : getD bs 5 0 ≡ f .byte
-  pub some-stations : 1 ≤ stations-of bs
-  pub few-stations : stations-of bs ≤ 256
-  pub enough-places : count-of bs ≤ places
-  pub long : length bs ≡ 10 + 12 * count-of bs
 
 equal : (a b : ℕ) → a ≡ b → not (eqb a b) ≡ false
 equal a b e = grind (arith, tells)

@@ -17,10 +17,10 @@ use Rattle.refusal.specs.declared.Facts.{Facts}
 use Rattle.planfile.specs.Bytes.{number-at}
 use Rattle.planfile.specs.Faults.{fault, first-fault, or-else, outside, repeats}
 use Rattle.planfile.specs.Format.{Format}
+use Rattle.planfile.specs.Header.{Passes}
 use Rattle.planfile.specs.Reading.{reading-refusal, faulty-record, file-records, stations-of, count-of, marked}
 use Rattle.planfile.specs.Sound.{Differs, LinkSound, Laid}
 use Rattle.planfile.specs.declared.fields.Fields.{Fields}
-use Rattle.planfile.proofs.HeaderTests.{Passes}
 use Rattle.planfile.proofs.Ranges.{bounds, inside}
 
 -- a test that refuses nothing fails, and leaves the rest

@@ -4,6 +4,7 @@ pub mod Records
 pub mod Encoding
 pub mod Faults
 pub mod Reading
+pub mod Header
 pub mod Sound
 pub mod Writing
 pub mod RoundTrip

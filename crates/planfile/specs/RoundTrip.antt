@@ -28,7 +28,7 @@ use Rattle.planfile.specs.declared.fields.Fields.{Fields}
 pub record Holds {K : Type 0} (m : Kind K) (f : Format) (n : ℕ) (links : List (Link K)) (bs : List ℕ) : Type 0 where
   pub encoded : file-of m f n links ≡ bs
   pub sound : Sound f n (map (fields-of m) links)
-  pub writable : (room : ℕ) → length bs ≤ room → writing-refusal f n (map (fields-of m) links) room ≡ None
+  pub writable : (room : ℕ) → length bs ≤ room → writing-refusal m f n links room ≡ None
 
 abbrev pub SameLinks : {K : Type 0} → Kind K → List (Link K) → List (Link K) → Type 0
 SameLinks m ls ls′ = map (fields-of m) ls ≡ map (fields-of m) ls′

@@ -4,6 +4,7 @@
 mod counts;
 mod field;
 mod fields;
+mod header;
 mod kind;
 mod pairs;
 mod reading;

@@ -16,6 +16,7 @@ ghost use Rattle.planfile.specs.RoundTrip.{Holds};
 ghost use Rattle.planfile.specs.Sound.{Sound};
 use super::counts::Counts;
 use super::fields::Fields;
+use super::header::read_header;
 use super::kind::FileKind;
 use super::kind::LinkRange;
 use super::pairs::Pairs;
@@ -47,30 +48,7 @@ fn inspect<K: FileKind>(range: LinkRange, bytes: &[u8], places: usize) -> Result
     ensures fits { λ r. ⌜ made r (λ c. (length (now (bytes .entry)) ≡ 10 + 12 * c .links) × (c .links ≤ places)) ⌝ }
     ensures encoded { λ r. ⌜ made r (λ c. encoding (K·FileKind .format) (c .stations) (file-records (now (bytes .entry))) ≡ now (bytes .entry)) ⌝ }
 {
-    if places < 1 || places > 4096 {
-        return Err(Refusal::Places);
-    }
-    let [c, p, l, v1, v0, kind, n1, n0, k1, k0, records @ ..] = bytes else {
-        return Err(Refusal::ShortHeader);
-    };
-    if *c != b'C' || *p != b'P' || *l != b'L' {
-        return Err(Refusal::Mark);
-    }
-    if u16::from_be_bytes([*v1, *v0]) != 1 {
-        return Err(Refusal::Version);
-    }
-    if *kind != K::kind_byte() {
-        return Err(Refusal::Kind);
-    }
-    let stations = u16::from_be_bytes([*n1, *n0]);
-    let links = u16::from_be_bytes([*k1, *k0]);
-    if stations < 1 || stations > 256 || links as usize > places {
-        return Err(Refusal::Counts);
-    }
-    if records.len() != 12 * links as usize {
-        return Err(Refusal::Length);
-    }
-    let counts = Counts { stations, links };
+    let (counts, records) = read_header::<K>(bytes, places)?;
     check_records::<K>(range, counts, records)?;
     Ok(counts)
 }

@@ -21,7 +21,9 @@ impl Fields {
     // The fields of the record that the bytes begin with.
     pub(crate) fn first(bytes: &[u8]) -> Fields
         requires { ⌜ 12 ≤ length (now bytes) ⌝ }
-        ensures value { λ r. ⌜ r ≡ first-fields (now (bytes .entry)) ⌝ }
+        ensures from { λ r. ⌜ r .from ≡ first-fields (now (bytes .entry)) .from ⌝ }
+        ensures to { λ r. ⌜ r .to ≡ first-fields (now (bytes .entry)) .to ⌝ }
+        ensures number { λ r. ⌜ r .number ≡ first-fields (now (bytes .entry)) .number ⌝ }
     {
         let from = [bytes[0], bytes[1]];
         let to = [bytes[2], bytes[3]];

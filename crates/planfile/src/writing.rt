@@ -27,7 +27,7 @@ pub fn write<K: FileKind>(
     links: &[Link<K>],
     buffer: &mut [u8],
 ) -> Result<usize, Refusal>
-    ensures refused { λ r. ⌜ told r ≡ writing-refusal (K·FileKind .format) stations (map (fields-of (K·Cost .kind)) (now (links .entry))) (length (now (buffer .entry))) ⌝ }
+    ensures refused { λ r. ⌜ told r ≡ writing-refusal (K·Cost .kind) (K·FileKind .format) stations (now (links .entry)) (length (now (buffer .entry))) ⌝ }
     ensures value { λ r. ⌜ made r (λ l. l ≡ length (file-of (K·Cost .kind) (K·FileKind .format) stations (now (links .entry)))) ⌝ }
     ensures after { λ r. ⌜ now (buffer .exit) ≡ cond (isOk r) (file-of (K·Cost .kind) (K·FileKind .format) stations (now (links .entry)) ++ drop (length (file-of (K·Cost .kind) (K·FileKind .format) stations (now (links .entry)))) (now (buffer .entry))) (now (buffer .entry)) ⌝ }
     ensures reads_back { λ r. ⌜ made r (λ l. Sound (K·FileKind .format) stations (map (fields-of (K·Cost .kind)) (now (links .entry))) → ReadsBack (K·Cost .kind) (K·Cost .formed) (K·FileKind .format) stations (now (links .entry)) (take l (now (buffer .exit)))) ⌝ }
@@ -65,7 +65,7 @@ fn measure<K: FileKind>(
     room: usize,
 ) -> Result<usize, Refusal>
     requires { ⌜ Ranged (K·Cost .kind) (K·Cost .formed) (K·FileKind .format) range ⌝ }
-    ensures refused { λ r. ⌜ told r ≡ writing-refusal (K·FileKind .format) stations (map (fields-of (K·Cost .kind)) (now (links .entry))) room ⌝ }
+    ensures refused { λ r. ⌜ told r ≡ writing-refusal (K·Cost .kind) (K·FileKind .format) stations (now (links .entry)) room ⌝ }
     ensures value { λ r. ⌜ made r (λ l. (l ≡ 10 + 12 * length (now (links .entry))) × (l ≤ room) × (length (now (links .entry)) ≤ 4096)) ⌝ }
 {
     if stations < 1 || stations > 256 {

@@ -28,7 +28,7 @@ loop-index-again g c =
     let xs = records-of (c .args .counts .links) bs in
     let x = c .first-fields .result in
     let inside = within (c .args .counts .links) bs i (c .loop-index-test .taken) in
-    let item = record-here (c .args .counts .links) bs i x (c .loop-index-test .taken) (c .first-fields .ensures .value) in
+    let item = record-here (c .args .counts .links) bs i x (c .loop-index-test .taken) (c .first-fields .ensures .from) (c .first-fields .ensures .to) (c .first-fields .ensures .number) in
     let seen = c .loop-index .seen .seen in
     let told = c .in-Continue-read-link .ensures tt in (
       subst⁻¹ (λ s. Holds s (take (i + 1) xs)) (told .after) (holds-here f n (c .pre .few) xs i inside seen (c .loop-index .inv .0) x item (told .refused)),
@@ -42,7 +42,7 @@ returns-in-Break-read-link g c =
     let xs = records-of (c .args .counts .links) bs in
     let x = c .first-fields .result in
     let inside = within (c .args .counts .links) bs i (c .loop-index-test .taken) in
-    let item = record-here (c .args .counts .links) bs i x (c .loop-index-test .taken) (c .first-fields .ensures .value) in
+    let item = record-here (c .args .counts .links) bs i x (c .loop-index-test .taken) (c .first-fields .ensures .from) (c .first-fields .ensures .to) (c .first-fields .ensures .number) in
     let found = fault-here (g .K·FileKind .format) (c .args .counts .stations) (c .pre .few) xs i inside (c .loop-index .seen .seen) (c .loop-index .inv .0) x item _ (c .in-Break-read-link .ensures tt .refused) in
     let p = err-from-errBy (c .from-residual .result) (c .from-residual .ensures .1) in
     rw (p .1, p .2) (record { refused = found ∙ c .loop-index .inv .1 })
