@@ -1,3 +1,4 @@
+pub mod Fronted
 pub mod Format
 pub mod Bytes
 pub mod Records

@@ -2,6 +2,8 @@
 --
 --   Holds m f n links bs      the file bs holds the plan: it is its encoding, the plan is sound, and writing the plan
 --                             into any buffer that is long enough is not refused, so that it gives bs again
+--   Accepts f places bs ok    ok, whether reading bs was accepted, is true wherever bs is the encoding of a sound plan and
+--                             the list, of 1 to 4,096 places, has a place for each of its links
 --   SameLinks m ls ls′        the same links in the same order: the same stations and the same costs
 --   ReadsBack m formed f n links bs
 --                             the file bs is accepted by any list that has places for its links, and is read as the
@@ -9,6 +11,7 @@
 --   PlanFits n xs             the numbers fit the places that the format has for them
 --   Unambiguous f             different plans have different encodings
 use mathlib.Core.Path.{_≡_}
+use mathlib.Core.Bool.{Bool, true}
 use mathlib.Core.List.{List, map}
 use Prim.Native.Nat.{ℕ, _^_, _≤_, _<_}
 use lib.ListN.{length}
@@ -29,6 +32,9 @@ pub record Holds {K : Type 0} (m : Kind K) (f : Format) (n : ℕ) (links : List 
   pub encoded : file-of m f n links ≡ bs
   pub sound : Sound f n (map (fields-of m) links)
   pub writable : (room : ℕ) → length bs ≤ room → writing-refusal m f n links room ≡ None
+
+abbrev pub Accepts : Format → ℕ → List ℕ → Bool → Type 0
+Accepts f places bs ok = (n : ℕ) (xs : List Fields) → Sound f n xs → 1 ≤ places → places ≤ 4096 → length xs ≤ places → encoding f n xs ≡ bs → ok ≡ true
 
 abbrev pub SameLinks : {K : Type 0} → Kind K → List (Link K) → List (Link K) → Type 0
 SameLinks m ls ls′ = map (fields-of m) ls ≡ map (fields-of m) ls′

@@ -1,8 +1,8 @@
 // The file layer, reading: a header, then records, into a list of links.
 ghost use mathlib.Core.Path.{_≡_};
-ghost use mathlib.Core.Bool.{cond, true};
-ghost use mathlib.Core.List.{List, [], map, _++_};
-ghost use Prim.Native.Nat.{ℕ, _+_, _*_, _<_, _≤_};
+ghost use mathlib.Core.Bool.{cond};
+ghost use mathlib.Core.List.{[], map, _++_};
+ghost use Prim.Native.Nat.{_+_, _*_, _<_, _≤_};
 ghost use lib.ListN.{drop, length, set, take};
 ghost use Rattle.std.specs.Results.{isOk};
 ghost use Rattle.std.specs.Vec.{made};
@@ -10,10 +10,10 @@ ghost use Rattle.refusal.specs.First.{fault-told, told};
 ghost use Rattle.planfile.specs.Encoding.{encoding};
 ghost use Rattle.planfile.specs.Faults.{first-fault};
 ghost use Rattle.planfile.specs.Format.{Ranged};
-ghost use Rattle.planfile.specs.Reading.{count-of, counts-of, file-records, links-of, reading-refusal};
+ghost use Rattle.planfile.specs.Fronted.{fronted};
+ghost use Rattle.planfile.specs.Reading.{counts-of, file-records, links-of, reading-refusal};
 ghost use Rattle.planfile.specs.Records.{link-of, records-of};
-ghost use Rattle.planfile.specs.RoundTrip.{Holds};
-ghost use Rattle.planfile.specs.Sound.{Sound};
+ghost use Rattle.planfile.specs.RoundTrip.{Accepts, Holds};
 use super::counts::Counts;
 use super::fields::Fields;
 use super::header::read_header;
@@ -30,9 +30,9 @@ use refusal::RefusalFromRecord;
 pub fn read<K: FileKind>(bytes: &[u8], list: &mut [Link<K>]) -> Result<Counts, Refusal>
     ensures refused { λ r. ⌜ told r ≡ reading-refusal (K·FileKind .format) (length (now (list .entry))) (now (bytes .entry)) ⌝ }
     ensures value { λ r. ⌜ made r (λ c. c ≡ counts-of (now (bytes .entry))) ⌝ }
-    ensures after { λ r. ⌜ now (list .exit) ≡ cond (isOk r) (links-of (K·Cost .kind) (K·Cost .formed) (now (bytes .entry)) ++ drop (count-of (now (bytes .entry))) (now (list .entry))) (now (list .entry)) ⌝ }
+    ensures after { λ r. ⌜ now (list .exit) ≡ cond (isOk r) (fronted (links-of (K·Cost .kind) (K·Cost .formed) (now (bytes .entry))) (now (list .entry))) (now (list .entry)) ⌝ }
     ensures holds { λ r. ⌜ made r (λ c. Holds (K·Cost .kind) (K·FileKind .format) (c .stations) (take (c .links) (now (list .exit))) (now (bytes .entry))) ⌝ }
-    ensures accepts { λ r. ⌜ ((n : ℕ) (xs : List Fields) → Sound (K·FileKind .format) n xs → 1 ≤ length (now (list .entry)) → length (now (list .entry)) ≤ 4096 → length xs ≤ length (now (list .entry)) → encoding (K·FileKind .format) n xs ≡ now (bytes .entry) → isOk r ≡ true) ⌝ }
+    ensures accepts { λ r. ⌜ Accepts (K·FileKind .format) (length (now (list .entry))) (now (bytes .entry)) (isOk r) ⌝ }
 {
     let range = K::link_range();
     let counts = inspect::<K>(range, bytes, list.len())?;

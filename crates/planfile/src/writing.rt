@@ -10,6 +10,7 @@ ghost use Rattle.std.specs.Vec.{made};
 ghost use Rattle.refusal.specs.First.{field-told, told};
 ghost use Rattle.planfile.specs.Encoding.{file-of, header};
 ghost use Rattle.planfile.specs.Format.{Ranged};
+ghost use Rattle.planfile.specs.Fronted.{fronted};
 ghost use Rattle.planfile.specs.Records.{field-bytes, fields-of};
 ghost use Rattle.planfile.specs.RoundTrip.{ReadsBack, Unambiguous};
 ghost use Rattle.planfile.specs.Sound.{Sound};
@@ -29,7 +30,7 @@ pub fn write<K: FileKind>(
 ) -> Result<usize, Refusal>
     ensures refused { λ r. ⌜ told r ≡ writing-refusal (K·Cost .kind) (K·FileKind .format) stations (now (links .entry)) (length (now (buffer .entry))) ⌝ }
     ensures value { λ r. ⌜ made r (λ l. l ≡ length (file-of (K·Cost .kind) (K·FileKind .format) stations (now (links .entry)))) ⌝ }
-    ensures after { λ r. ⌜ now (buffer .exit) ≡ cond (isOk r) (file-of (K·Cost .kind) (K·FileKind .format) stations (now (links .entry)) ++ drop (length (file-of (K·Cost .kind) (K·FileKind .format) stations (now (links .entry)))) (now (buffer .entry))) (now (buffer .entry)) ⌝ }
+    ensures after { λ r. ⌜ now (buffer .exit) ≡ cond (isOk r) (fronted (file-of (K·Cost .kind) (K·FileKind .format) stations (now (links .entry))) (now (buffer .entry))) (now (buffer .entry)) ⌝ }
     ensures reads_back { λ r. ⌜ made r (λ l. Sound (K·FileKind .format) stations (map (fields-of (K·Cost .kind)) (now (links .entry))) → ReadsBack (K·Cost .kind) (K·Cost .formed) (K·FileKind .format) stations (now (links .entry)) (take l (now (buffer .exit)))) ⌝ }
     ensures unambiguous { λ _. ⌜ Unambiguous (K·FileKind .format) ⌝ }
 {
