@@ -76,6 +76,8 @@ def answer_write(kind, stations, room, links):
     out = [k for k, (_, _, cost) in enumerate(links) if not low <= cost <= high]
     if stations not in range(1, 257):
         return f"refused 1 {old.hex()}"
+    if len(links) > 4096:
+        return f"refused 2 {old.hex()}"
     if room < len(file):
         return f"refused 12 {old.hex()}"
     if out:
@@ -150,6 +152,8 @@ def cases():
     t.note("19: n 0 and 257, 256 will do; as many links as places will do, one more will not")
     for stations in (0, 257, 65535, 256):
         t.read("sum", plan("sum", stations, one))
+    t.read("sum", plan("sum", 1, []))
+    t.read("sum", plan("sum", 1, [(0, 0, 7)]))
     t.read("sum", plan("sum", 2, two), 2)
     t.read("sum", plan("sum", 2, two), 1)
     t.read("sum", plan("sum", 2, [], count=4097))
@@ -195,6 +199,7 @@ def cases():
     t.read("sum", plan("sum", 2, [(0, 1, 0)]) + b"\x00")
     t.read("sum", plan("sum", 2, [(5, 5, 0)]))
     t.read("sum", plan("sum", 2, [(5, 5, 7)]))
+    t.read("sum", plan("sum", 2, [(1, 1, 0)]))
     t.read("sum", plan("sum", 2, [(0, 1, 7), (0, 1, 0)]))
 
     t.note("4,096 links of 256 stations, both kinds; one repeated at the end; 4,097 links")
@@ -220,7 +225,9 @@ def cases():
     for links in ([(0, 1, 1)], [(0, 1, 65)], [(0, 1, TOP)], [(0, 1, 7), (1, 0, 7), (1, 2, 65)]):
         t.write("split", 3, 60, links)
 
-    t.note("writing: 1 before 12 before 21")
+    t.note("writing: 2 for 4,097 links; 1 before 2 before 12 before 21")
+    t.write("sum", 256, 3, ring(256, 4097, 0))
+    t.write("sum", 0, 3, ring(256, 4097, 0))
     t.write("sum", 0, 3, [(0, 1, 0)])
     t.write("sum", 2, 3, [(0, 1, 0)])
 

@@ -1,9 +1,11 @@
 -- The lines of an account: fields divided by one blank, each line ended by byte 10.
 --
---   head-line f counts     the kind's word, the number of stations, the number of links
+--   counts-line word n     a word, the number of stations, the number of links
+--   head-line f n          the same with the kind's word
 --   link-line m l          from, to and the cost's number
 --   facts-line facts       what a refusal names, to the end of its line
---   refused-line c         the word refused and the number, then the record, and for a faulty record the fault's number
+--   refused-line c         the word refused and the number; where the refusal names a record, the record, and where that
+--                          record is at fault, the fault's number
 use mathlib.Core.List.{List, _++_}
 use Prim.Native.Nat.{ℕ}
 use lib.Chars.{codes}
@@ -16,8 +18,11 @@ use Rattle.refusal.specs.declared.Code.{Code}
 use Rattle.refusal.specs.declared.Facts.{Facts}
 use Rattle.refusal.specs.declared.Facts.the-variants.{AtRecord, Bare, Below}
 
+abbrev pub counts-line : List ℕ → Counts → List ℕ
+counts-line word counts = word ++ (codes " " ++ (decimal (counts .stations) ++ (codes " " ++ (decimal (counts .links) ++ codes "\n"))))
+
 abbrev pub head-line : Format → Counts → List ℕ
-head-line f counts = f .word ++ (codes " " ++ (decimal (counts .stations) ++ (codes " " ++ (decimal (counts .links) ++ codes "\n"))))
+head-line f counts = counts-line (f .word) counts
 
 abbrev pub link-line : {K : Type 0} → Kind K → Link K → List ℕ
 link-line m l = decimal (l .from) ++ (codes " " ++ (decimal (l .to) ++ (codes " " ++ (decimal (m .rank (l .cost)) ++ codes "\n"))))

@@ -2,7 +2,7 @@
 ghost use mathlib.Core.Path.{_≡_};
 ghost use Rattle.std.specs.Of.String.{string-bytes};
 ghost use Rattle.std.specs.Vec.{made};
-ghost use Rattle.account.specs.Lines.{head-line, link-line, refused-line};
+ghost use Rattle.account.specs.Lines.{counts-line, head-line, link-line, refused-line};
 use cost::Link;
 use planfile::Counts;
 use planfile::FileKind;
@@ -15,7 +15,13 @@ use std::alloc::Global;
 pub(crate) fn head_text<K: FileKind>(heap: Global, counts: Counts) -> Result<String, AllocError>
     ensures value { λ r. ⌜ made r (λ s. string-bytes s ≡ head-line (K·FileKind .format) counts) ⌝ }
 {
-    let word = K::word();
+    word_and_counts(heap, K::word(), counts)
+}
+
+// A word, then the two counts.
+fn word_and_counts(heap: Global, word: &str, counts: Counts) -> Result<String, AllocError>
+    ensures value { λ r. ⌜ made r (λ s. string-bytes s ≡ counts-line (now (word .entry)) counts) ⌝ }
+{
     let stations = counts.stations;
     let links = counts.links;
     format!(heap, "{word} {stations} {links}\n")

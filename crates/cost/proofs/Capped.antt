@@ -2,7 +2,7 @@
 use mathlib.Core.Path.{_≡_, sym, ap, _∙_}
 use mathlib.Core.Logic.{⊎-elim}
 use Prim.Native.Nat.{ℕ, _*_, _≤_, _<_, min}
-use native.Mathlib.Nat.{mul-assoc, mul-comm, one-mul, mul-one, mul-le-mul-left, mul-le-mul-right, mul-lt-mul-of-pos-left}
+use native.Mathlib.Nat.{mul-assoc, mul-comm, mul-one, mul-le-mul-left, mul-le-mul-right, mul-lt-mul-of-pos-left}
 use native.Mathlib.Omega.{arith}
 use Rattle.std.proofs.shelf.Tests.{cases-lt}
 

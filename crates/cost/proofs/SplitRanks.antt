@@ -6,11 +6,11 @@ use native.Mathlib.Omega.{arith}
 use Rattle.std.proofs.shelf.Ways.{tells}
 use Rattle.cost.specs.Kind.{FAR}
 use Rattle.cost.specs.Laws.{Laws, Strict}
-use Rattle.cost.specs.Split.{split-kind, split-rank, outlets}
+use Rattle.cost.specs.Split.{split-cost, split-kind, split-rank}
 use Rattle.cost.specs.declared.split.Split.{Split}
 use Rattle.cost.proofs.Capped.{associative, cap-wins, keeps-order, keeps-strict, goes-above}
 
-of-number : (n : ℕ) → 0 < n → n ≤ FAR → split-rank (outlets n) ≡ n
+of-number : (n : ℕ) → 0 < n → n ≤ FAR → split-rank (split-cost n) ≡ n
 of-number n pos fits = grind (arith, tells)
 
 positive : (a : Split) → 0 < split-rank a
@@ -30,15 +30,15 @@ split-laws = record {
   far-rank = refl-rank;
   zero-is-not-far = λ e. omega (arith, e);
   join-associative = λ a b c. rw (join-rank (split-kind .joined a b) c, join-rank a b, join-rank a (split-kind .joined b c), join-rank b c) (associative FAR (split-rank a) (split-rank b) (split-rank c) (positive a) (positive c));
-  zero-left = λ a. rw (join-rank (outlets 1) a) (omega (arith, one-mul (split-rank a), fits a));
-  zero-right = λ a. rw (join-rank a (outlets 1)) (omega (arith, mul-one (split-rank a), fits a));
-  far-left = λ a. rw (join-rank (outlets FAR) a) (cap-wins FAR (split-rank a) (positive a));
-  far-right = λ a. rw (join-rank a (outlets FAR), mul-comm (split-rank a) FAR) (cap-wins FAR (split-rank a) (positive a));
+  zero-left = λ a. rw (join-rank (split-cost 1) a) (omega (arith, one-mul (split-rank a), fits a));
+  zero-right = λ a. rw (join-rank a (split-cost 1)) (omega (arith, mul-one (split-rank a), fits a));
+  far-left = λ a. rw (join-rank (split-cost FAR) a) (cap-wins FAR (split-rank a) (positive a));
+  far-right = λ a. rw (join-rank a (split-cost FAR), mul-comm (split-rank a) FAR) (cap-wins FAR (split-rank a) (positive a));
   join-keeps-left = λ a b c le. rw (join-rank c a, join-rank c b) (keeps-order FAR (split-rank a) (split-rank b) (split-rank c) le);
   join-keeps-right = λ a b c le. rw (join-rank a c, join-rank b c, mul-comm (split-rank a) (split-rank c), mul-comm (split-rank b) (split-rank c)) (keeps-order FAR (split-rank a) (split-rank b) (split-rank c) le);
 }
   where
-    refl-rank : split-rank (outlets FAR) ≡ FAR
+    refl-rank : split-rank (split-cost FAR) ≡ FAR
     refl-rank = of-number FAR (omega arith) (omega arith)
 
 pub split-strict : Strict split-kind

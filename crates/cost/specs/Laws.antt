@@ -1,11 +1,11 @@
--- The laws that every cost kind shows. The two strict laws stand in a record of their own, since
--- least costs and simple routes of the plain method are shown without them.
+-- The laws that every cost kind shows. The two strict laws stand in a record of their own, so that it can be
+-- seen what is shown without them.
 --
 --   Laws m       ranks are 64-bit numbers; join is associative; zero changes nothing, FAR takes over
 --                everything; join keeps "at most" on both sides
 --   Strict m     join keeps "below"; joining a cost other than zero goes above
 use mathlib.Core.Path.{_≡_}
-use Prim.Native.Nat.{ℕ, _≤_}
+use Prim.Native.Nat.{_≤_}
 use Rattle.cost.specs.Kind.{Kind, FAR, Same, AtMost, Below}
 
 pub record Laws {K : Type 0} (m : Kind K) : Type 0 where

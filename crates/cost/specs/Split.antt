@@ -1,7 +1,7 @@
 -- Split: outlets. A rank is the number itself, but a stored 0 is no number of outlets and stands for FAR;
 -- a product above the greatest cost is FAR.
 --
---   outlets n       the split cost with the number n
+--   split-cost n    the split cost with the number n
 --   split-rank a    FAR for a stored 0
 --   split-kind      zero is 1, join multiplies
 --   split-formed    every number but 0 forms a cost, the greatest one FAR
@@ -13,8 +13,8 @@ use Rattle.std.specs.declared.option.Option.the-variants.{Some, None}
 use Rattle.cost.specs.Kind.{Kind, FAR}
 use Rattle.cost.specs.declared.split.Split.{Split}
 
-abbrev pub outlets : ℕ → Split
-outlets n = record { outlets = n }
+abbrev pub split-cost : ℕ → Split
+split-cost n = record { outlets = n }
 
 abbrev pub split-rank : Split → ℕ
 split-rank a = cond (eqb (a .outlets) 0) FAR (min (a .outlets) FAR)
@@ -22,10 +22,10 @@ split-rank a = cond (eqb (a .outlets) 0) FAR (min (a .outlets) FAR)
 abbrev pub split-kind : Kind Split
 split-kind = record {
   rank = split-rank;
-  zero = outlets 1;
-  far = outlets FAR;
-  joined = λ a b. outlets (min (split-rank a * split-rank b) FAR);
+  zero = split-cost 1;
+  far = split-cost FAR;
+  joined = λ a b. split-cost (min (split-rank a * split-rank b) FAR);
 }
 
 abbrev pub split-formed : ℕ → Option Split
-split-formed n = cond (eqb n 0) None (Some (outlets n))
+split-formed n = cond (eqb n 0) None (Some (split-cost n))

@@ -8,17 +8,17 @@ use Prim.Native.Nat.{ℕ, _-_, _^_}
 use lib.ListN.{replicate}
 use Rattle.cost.specs.Joins.{joins}
 use Rattle.cost.specs.Kind.{FAR}
-use Rattle.cost.specs.Split.{split-kind, outlets}
-use Rattle.cost.specs.Sum.{sum-kind, picos}
+use Rattle.cost.specs.Split.{split-cost, split-kind}
+use Rattle.cost.specs.Sum.{sum-kind, sum-cost}
 
 abbrev pub worked-ranks : List ℕ
 worked-ranks =
-    sum-kind .rank (sum-kind .joined (picos (2 ^ 64 - 3)) (picos 1))
-    ∷ sum-kind .rank (sum-kind .joined (picos (2 ^ 64 - 2)) (picos 1))
-    ∷ split-kind .rank (split-kind .joined (outlets (2 ^ 63 - 1)) (outlets 2))
-    ∷ split-kind .rank (split-kind .joined (outlets (2 ^ 63)) (outlets 2))
-    ∷ split-kind .rank (joins split-kind (replicate 10 (outlets 64)))
-    ∷ split-kind .rank (joins split-kind (replicate 11 (outlets 64)))
+    sum-kind .rank (sum-kind .joined (sum-cost (2 ^ 64 - 3)) (sum-cost 1))
+    ∷ sum-kind .rank (sum-kind .joined (sum-cost (2 ^ 64 - 2)) (sum-cost 1))
+    ∷ split-kind .rank (split-kind .joined (split-cost (2 ^ 63 - 1)) (split-cost 2))
+    ∷ split-kind .rank (split-kind .joined (split-cost (2 ^ 63)) (split-cost 2))
+    ∷ split-kind .rank (joins split-kind (replicate 10 (split-cost 64)))
+    ∷ split-kind .rank (joins split-kind (replicate 11 (split-cost 64)))
     ∷ []
 
 abbrev pub worked-numbers : List ℕ

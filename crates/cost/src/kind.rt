@@ -48,9 +48,9 @@ pub trait Cost: Copy {
 pub fn total<K: Cost>(costs: &[K]) -> K
     ensures value { λ r. ⌜ r ≡ joins kind (now (costs .entry)) ⌝ }
 {
-    let mut sum = K::zero();
+    let mut whole = K::zero();
     for cost in costs {
-        sum = sum.join(*cost);
+        whole = whole.join(*cost);
     }
-    sum
+    whole
 }

@@ -1,6 +1,6 @@
 // Cost kinds: what a cost is, how costs join along a walk, and the laws that every kind shows.
 // Rests on the refusals.
-// Plan files, routes and plans are written for any kind that shows the laws.
+// What rests on it is written for any kind that shows the laws.
 mod kind;
 mod link;
 mod split;

@@ -1,8 +1,8 @@
 -- Reading and writing undo each other.
 use mathlib.Core.Path.{_≡_, refl, sym, ap, ap₂, subst⁻¹, _∙_}
-use mathlib.Core.Bool.{true, false}
+use mathlib.Core.Bool.{true}
 use mathlib.Core.List.{List, [], _∷_, _++_, map}
-use Prim.Native.Nat.{ℕ, _+_, _*_, _≤_, _<_}
+use Prim.Native.Nat.{ℕ, _+_, _≤_, _<_}
 use native.Mathlib.Omega.{arith}
 use lib.ListN.{length, drop}
 use Rattle.std.proofs.shelf.Elements.{all-weaker}
@@ -21,12 +21,12 @@ use Rattle.cost.specs.declared.link.Link.{Link}
 use Rattle.refusal.specs.First.{told}
 use Rattle.refusal.specs.declared.Refusal.{Refusal}
 use Rattle.planfile.specs.Encoding.{encoding, file-of}
-use Rattle.planfile.specs.Faults.{first-fault, outside}
+use Rattle.planfile.specs.Faults.{first-fault}
 use Rattle.planfile.specs.Format.{Format, Ranged}
 use Rattle.planfile.specs.Reading.{faulty-record, file-records, links-of, reading-refusal, stations-of, count-of}
 use Rattle.planfile.specs.Records.{fields-of, link-of}
-use Rattle.planfile.specs.RoundTrip.{FieldsFit, Holds, PlanFits, ReadsBack, Unambiguous}
-use Rattle.planfile.specs.Sound.{Laid, LinkSound, Sound}
+use Rattle.planfile.specs.RoundTrip.{FieldsFit, Holds, ReadsBack, Unambiguous}
+use Rattle.planfile.specs.Sound.{Laid, Sound}
 use Rattle.planfile.specs.Writing.{first-outside}
 use Rattle.planfile.specs.declared.fields.Fields.{Fields}
 use Rattle.planfile.specs.declared.kind.LinkRange.{LinkRange}

@@ -1,6 +1,6 @@
 -- A number in w bytes reads back as itself, and w bytes are those of the number that they stand for.
 use mathlib.Core.Path.{_≡_, refl, sym, ap, ap₂, _∙_}
-use mathlib.Core.List.{List, [], _∷_, _++_}
+use mathlib.Core.List.{List, _∷_, _++_}
 use Prim.Native.Nat.{ℕ, zero, suc, _+_, _*_, _/_, _%_, _^_, _<_, _≤_}
 use native.Mathlib.Nat.{mul-assoc, mul-add-div-right, mul-add-mod-self-right, pow-succ', one-le-pow, mod-eq-of-lt}
 use native.Mathlib.Omega.{arith}

@@ -4,19 +4,18 @@ use mathlib.Core.List.{List, [], _∷_, _++_}
 use Prim.Native.Nat.{ℕ, zero, suc, _+_, _*_, _/_, _%_, _≤_, _<_}
 use native.Mathlib.Omega.{arith}
 use lib.ListN.{length, getD, take, drop}
-use lib.Seq.{take-add}
-use Rattle.std.proofs.shelf.Lists.{drop-drop, drop-more, take-append-drop, length-drop, length-append}
+use Rattle.std.proofs.shelf.Lists.{drop-more, take-append-drop, length-drop, length-append}
 use Rattle.std.specs.Joined.{joined}
 use Rattle.std.specs.shelf.Lists.{All}
-use Rattle.planfile.specs.Bytes.{bytes, number-at}
-use Rattle.planfile.specs.Encoding.{mark, header, encoding}
+use Rattle.planfile.specs.Bytes.{bytes}
+use Rattle.planfile.specs.Encoding.{header, encoding}
 use Rattle.planfile.specs.Format.{Format}
 use Rattle.planfile.specs.Header.{Passes}
 use Rattle.planfile.specs.Reading.{file-records, stations-of, count-of}
 use Rattle.planfile.specs.Records.{field-bytes, records-of}
 use Rattle.planfile.specs.RoundTrip.{FieldsFit}
 use Rattle.planfile.specs.declared.fields.Fields.{Fields}
-use Rattle.planfile.proofs.Codec.{Small, bytes-of-number, number-of-bytes}
+use Rattle.planfile.proofs.Codec.{Small, number-of-bytes}
 use Rattle.planfile.proofs.RecordBytes.{bytes-of-records, records-of-bytes, length-records, length-records-of, small-drop}
 
 -- n bytes from place i on, one by one

@@ -1,11 +1,11 @@
 -- Records and their bytes: the fields of a list's records are those whose bytes the list is.
 use mathlib.Core.Path.{_≡_, refl, sym, ap, ap₂, _∙_}
 use mathlib.Core.List.{List, [], _∷_, _++_, map}
-use Prim.Native.Nat.{ℕ, zero, suc, _+_, _-_, _*_, _^_, _<_, _≤_}
+use Prim.Native.Nat.{ℕ, zero, suc, _+_, _-_, _*_, _<_, _≤_}
 use native.Mathlib.Omega.{arith}
 use lib.ListN.{length, getD, take, drop}
 use lib.Seq.{take-add}
-use Rattle.std.proofs.shelf.Lists.{drop-drop, getD-drop, append-assoc, take-append-drop, length-drop, nil-from-length, take-rest}
+use Rattle.std.proofs.shelf.Lists.{drop-drop, getD-drop, take-append-drop, length-drop, nil-from-length, take-rest}
 use Rattle.std.proofs.shelf.Counted.{length-map-counting, getD-map-counting}
 use Rattle.std.specs.Iters.{counting}
 use Rattle.std.specs.Joined.{joined}
@@ -13,7 +13,7 @@ use Rattle.std.specs.shelf.Lists.{All}
 use Rattle.planfile.specs.Records.{field-bytes, first-fields, records-of}
 use Rattle.planfile.specs.RoundTrip.{FieldsFit}
 use Rattle.planfile.specs.declared.fields.Fields.{Fields}
-use Rattle.planfile.proofs.Codec.{Small, bytes-of-number, number-of-bytes, number-below}
+use Rattle.planfile.proofs.Codec.{Small, bytes-of-number, number-of-bytes}
 
 pub same-fields : (x y : Fields) → x .from ≡ y .from → x .to ≡ y .to → x .number ≡ y .number → x ≡ y
 same-fields x y from to number = λ i. record { from = from i; to = to i; number = number i }

@@ -1,9 +1,9 @@
 -- A file is accepted exactly when it holds a sound plan that the list has places for.
-use mathlib.Core.Path.{_≡_, refl, sym, ap, _∙_}
+use mathlib.Core.Path.{_≡_, refl, ap, _∙_}
 use mathlib.Core.Bool.{Bool, true, false, not, _&&_, _||_}
 use mathlib.Core.List.{List, [], _∷_, _++_}
 use mathlib.Core.Logic.{⊎-elim}
-use Prim.Native.Nat.{ℕ, _+_, _*_, _≤_, _<_}
+use Prim.Native.Nat.{ℕ, _+_, _*_}
 use native.Mathlib.Omega.{arith}
 use lib.Dec.{eqb, leb, ltb}
 use lib.ListN.{length, getD}
@@ -13,7 +13,6 @@ use Rattle.std.specs.declared.option.Option.{Option}
 use Rattle.std.specs.declared.option.Option.the-variants.{Some, None}
 use Rattle.std.specs.shelf.Lists.{All}
 use Rattle.refusal.specs.First.{refused-if}
-use Rattle.refusal.specs.declared.Facts.{Facts}
 use Rattle.planfile.specs.Bytes.{number-at}
 use Rattle.planfile.specs.Faults.{fault, first-fault, or-else, outside, repeats}
 use Rattle.planfile.specs.Format.{Format}

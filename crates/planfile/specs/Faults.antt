@@ -4,7 +4,7 @@
 --   repeats earlier x            the pair of x stands in an earlier record
 --   fault f n k again x          the first fault of record k on a plan of n stations, its pair being there already or not
 --   first-fault f n earlier xs   the first fault of the records xs, which follow the records earlier
-use mathlib.Core.Bool.{Bool, true, false, _&&_, _||_}
+use mathlib.Core.Bool.{Bool, false, _&&_, _||_}
 use mathlib.Core.List.{List, [], _∷_, _++_}
 use Prim.Native.Nat.{ℕ}
 use lib.Dec.{eqb, leb, ltb}

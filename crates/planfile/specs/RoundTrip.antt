@@ -6,8 +6,8 @@
 --                             the list, of 1 to 4,096 places, has a place for each of its links
 --   SameLinks m ls ls′        the same links in the same order: the same stations and the same costs
 --   ReadsBack m formed f n links bs
---                             the file bs is accepted by any list that has places for its links, and is read as the
---                             same number of stations and the same links
+--                             the file bs is accepted by any list, of 1 to 4,096 places, that has places for its links, and
+--                             is read as the same number of stations and the same links
 --   PlanFits n xs             the numbers fit the places that the format has for them
 --   Unambiguous f             different plans have different encodings
 use mathlib.Core.Path.{_≡_}

@@ -21,7 +21,7 @@ pub(crate) fn link_cost<K: FileKind>(
     ensures refused { λ r. ⌜ errPart r ≡ cond (outside (K·FileKind .format .low) (K·FileKind .format .high) number) (Some (record { index = index })) None ⌝ }
     ensures value { λ r. ⌜ made r (λ c. c ≡ valueOr (K·Cost .formed number) (K·Cost .kind .far)) ⌝ }
 {
-    if number < range.low || number > range.high {
+    if range.excludes(number) {
         return Err(FieldFault { index });
     }
     match K::form(number) {

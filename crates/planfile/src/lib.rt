@@ -1,6 +1,6 @@
 // Plan files: a plan's stations and links as bytes, both ways, in three layers: field, record and file.
 // Rests on the cost kinds and the refusals.
-// The programs read with it, and plans are commissioned from it.
+// Accounts are made of what it reads.
 mod counts;
 mod field;
 mod fields;

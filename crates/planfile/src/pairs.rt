@@ -1,6 +1,6 @@
 // The pairs of stations that have been seen, as a table with a place for each.
 ghost use mathlib.Core.Path.{_≡_};
-ghost use mathlib.Core.Bool.{Bool, not, false, true};
+ghost use mathlib.Core.Bool.{not, false, true};
 ghost use Prim.Native.Nat.{ℕ, _+_, _*_, _<_};
 ghost use lib.ListN.{getD, set, length};
 

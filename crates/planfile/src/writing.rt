@@ -48,8 +48,7 @@ fn check_costs<K: FileKind>(range: LinkRange, links: &[Link<K>]) -> Result<(), F
     ensures refused { λ r. ⌜ field-told r ≡ first-outside (K·FileKind .format) 0 (map (fields-of (K·Cost .kind)) (now (links .entry))) ⌝ }
 {
     for (index, link) in links.iter().enumerate() {
-        let number = link.cost.rank();
-        if number < range.low || number > range.high {
+        if range.excludes(link.cost.rank()) {
             return Err(FieldFault {
                 index: index as u16,
             });

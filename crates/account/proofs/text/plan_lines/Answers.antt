@@ -1,5 +1,5 @@
 -- One more line is one more link's.
-use mathlib.Core.Path.{_≡_, sym, ap, ap₂, _∙_}
+use mathlib.Core.Path.{sym, ap, ap₂, _∙_}
 use mathlib.Core.List.{[], _∷_, _++_}
 use lib.ListN.{take}
 use Rattle.std.proofs.shelf.Lists.{append-nil, joined-more, take-all, take-more}

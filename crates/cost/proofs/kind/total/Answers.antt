@@ -12,11 +12,11 @@ loop-cost-again g c =
     let costs = c .args .costs .now in
     let i = c .loop-cost .cost-index in
     let x = c .cost-item .result in
-    let step : joins-from m (c .loop-cost .sum) (drop i costs) ≡ joins-from m (m .joined (c .loop-cost .sum) (getD costs i x)) (drop (i + 1) costs) = at-drop-more (joins-from m (c .loop-cost .sum)) costs i x (c .loop-cost-test .taken) in
+    let step : joins-from m (c .loop-cost .whole) (drop i costs) ≡ joins-from m (m .joined (c .loop-cost .whole) (getD costs i x)) (drop (i + 1) costs) = at-drop-more (joins-from m (c .loop-cost .whole)) costs i x (c .loop-cost-test .taken) in
     cc
 
 pub returns : need.returns
 returns g c =
     let m = g .K·Cost .kind in
-    let done = at-drop-all (joins-from m (c .loop-cost .sum)) (c .args .costs .now) (c .loop-cost .cost-index) (c .loop-cost-test .left) in
+    let done = at-drop-all (joins-from m (c .loop-cost .whole)) (c .args .costs .now) (c .loop-cost .cost-index) (c .loop-cost-test .left) in
     record { value = sym done ∙ c .loop-cost .inv }

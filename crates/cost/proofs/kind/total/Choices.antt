@@ -5,4 +5,4 @@ use Rattle.cost.specs.Joins.{joins-from, joins}
 use Rattle.cost.proofs.kind.total.Given as given
 
 abbrev pub Inv-loop-cost : given.InvT-loop-cost
-Inv-loop-cost g l = joins-from (g .K·Cost .kind) (l .sum) (drop (l .cost-index) (l .costs)) ≡ joins (g .K·Cost .kind) (l .costs)
+Inv-loop-cost g l = joins-from (g .K·Cost .kind) (l .whole) (drop (l .cost-index) (l .costs)) ≡ joins (g .K·Cost .kind) (l .costs)

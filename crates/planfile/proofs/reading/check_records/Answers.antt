@@ -1,5 +1,5 @@
 -- Each turn moves one record from those to be searched to those that the table tells of.
-use mathlib.Core.Path.{_≡_, refl, sym, subst⁻¹, _∙_}
+use mathlib.Core.Path.{refl, sym, subst⁻¹, _∙_}
 use Prim.Native.Nat.{ℕ, _+_, _<_}
 use mathlib.Core.List.{List}
 use native.Mathlib.Omega.{arith}

@@ -2,7 +2,6 @@
 use mathlib.Core.Path.{_≡_, refl, sym, ap, ap₂, subst⁻¹, _∙_}
 use mathlib.Core.List.{map, _++_}
 use Prim.Native.Nat.{_+_, _*_}
-use native.Mathlib.Omega.{arith}
 use lib.ListN.{drop, length, take}
 use Rattle.std.proofs.shelf.Lists.{length-map, take-at}
 use Rattle.std.proofs.shelf.Results.{err-from-errBy}
