@@ -16,7 +16,7 @@ use Rattle.cost.specs.Kind.{Kind}
 use Rattle.cost.specs.Split.{split-formed, split-kind}
 use Rattle.cost.specs.Sum.{sum-formed, sum-kind}
 use Rattle.cost.specs.declared.link.Link.{Link}
-use Rattle.planfile.specs.Format.{Format, split-format, sum-format}
+use Rattle.filekind.specs.Format.{Format, split-format, sum-format}
 use Rattle.planfile.specs.Reading.{counts-of, links-of, reading-refusal}
 use Rattle.planfile.specs.declared.counts.Counts.{Counts}
 use Rattle.refusal.specs.declared.Code.{Code}

@@ -12,7 +12,7 @@ use lib.Chars.{codes}
 use Rattle.std.specs.Written.{decimal}
 use Rattle.cost.specs.Kind.{Kind}
 use Rattle.cost.specs.declared.link.Link.{Link}
-use Rattle.planfile.specs.Format.{Format}
+use Rattle.filekind.specs.Format.{Format}
 use Rattle.planfile.specs.declared.counts.Counts.{Counts}
 use Rattle.refusal.specs.declared.Code.{Code}
 use Rattle.refusal.specs.declared.Facts.{Facts}

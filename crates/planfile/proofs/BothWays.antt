@@ -18,18 +18,18 @@ use Rattle.std.specs.shelf.Lists.{All}
 use Rattle.cost.specs.Forms.{Forms}
 use Rattle.cost.specs.Kind.{Kind, FAR}
 use Rattle.cost.specs.declared.link.Link.{Link}
+use Rattle.filekind.specs.Format.{Format, Ranged}
+use Rattle.filekind.specs.declared.range.LinkRange.{LinkRange}
 use Rattle.refusal.specs.First.{told}
 use Rattle.refusal.specs.declared.Refusal.{Refusal}
 use Rattle.planfile.specs.Encoding.{encoding, file-of}
 use Rattle.planfile.specs.Faults.{first-fault}
-use Rattle.planfile.specs.Format.{Format, Ranged}
 use Rattle.planfile.specs.Reading.{faulty-record, file-records, links-of, reading-refusal, stations-of, count-of}
 use Rattle.planfile.specs.Records.{fields-of, link-of}
 use Rattle.planfile.specs.RoundTrip.{FieldsFit, Holds, ReadsBack, Unambiguous}
 use Rattle.planfile.specs.Sound.{Laid, Sound}
 use Rattle.planfile.specs.Writing.{first-outside}
 use Rattle.planfile.specs.declared.fields.Fields.{Fields}
-use Rattle.planfile.specs.declared.kind.LinkRange.{LinkRange}
 use Rattle.planfile.proofs.FileBytes.{count-read-back, encoding-passes, length-encoding, records-read-back, stations-read-back}
 use Rattle.planfile.proofs.HeaderTests.{left-to-records}
 use Rattle.planfile.proofs.Ranges.{inside}

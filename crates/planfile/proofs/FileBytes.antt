@@ -7,9 +7,9 @@ use lib.ListN.{length, getD, take, drop}
 use Rattle.std.proofs.shelf.Lists.{drop-more, take-append-drop, length-drop, length-append}
 use Rattle.std.specs.Joined.{joined}
 use Rattle.std.specs.shelf.Lists.{All}
+use Rattle.filekind.specs.Format.{Format}
 use Rattle.planfile.specs.Bytes.{bytes}
 use Rattle.planfile.specs.Encoding.{header, encoding}
-use Rattle.planfile.specs.Format.{Format}
 use Rattle.planfile.specs.Header.{Passes}
 use Rattle.planfile.specs.Reading.{file-records, stations-of, count-of}
 use Rattle.planfile.specs.Records.{field-bytes, records-of}

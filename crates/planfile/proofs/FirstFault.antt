@@ -7,9 +7,9 @@ use native.Mathlib.Nat.{le-of-lt}
 use lib.ListN.{length, getD, set, take, drop}
 use Rattle.std.proofs.shelf.Lists.{at-drop-more, take-more, length-take-le}
 use Rattle.std.specs.declared.option.Option.the-variants.{Some, None}
+use Rattle.filekind.specs.Format.{Format}
 use Rattle.refusal.specs.declared.Facts.{Facts}
 use Rattle.planfile.specs.Faults.{fault, first-fault, or-else, repeats}
-use Rattle.planfile.specs.Format.{Format}
 use Rattle.planfile.specs.declared.fields.Fields.{Fields}
 use Rattle.planfile.proofs.Seen.{Holds, place, holds-more, fault-seen, sound-low}
 

@@ -8,10 +8,10 @@ use Rattle.std.proofs.shelf.Lists.{at-drop-more}
 use Rattle.std.specs.declared.option.Option.the-variants.{Some}
 use Rattle.cost.specs.Kind.{Kind}
 use Rattle.cost.specs.declared.link.Link.{Link}
+use Rattle.filekind.specs.Format.{Format}
+use Rattle.filekind.specs.Outside.{outside}
 use Rattle.refusal.specs.Code.{field-code}
 use Rattle.refusal.specs.First.{refused-if}
-use Rattle.planfile.specs.Faults.{outside}
-use Rattle.planfile.specs.Format.{Format}
 use Rattle.planfile.specs.Records.{fields-of}
 use Rattle.planfile.specs.Writing.{first-outside}
 

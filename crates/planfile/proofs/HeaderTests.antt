@@ -9,10 +9,11 @@ use lib.ListN.{length, getD, drop}
 use Rattle.std.proofs.shelf.Ways.{tells}
 use Rattle.std.specs.Options.{mapped}
 use Rattle.std.specs.declared.option.Option.{Option}
+use Rattle.filekind.specs.Format.{Format}
+use Rattle.filekind.specs.Outside.{outside}
 use Rattle.refusal.specs.declared.Facts.{Facts}
 use Rattle.planfile.specs.Bytes.{number-at}
-use Rattle.planfile.specs.Faults.{outside, first-fault}
-use Rattle.planfile.specs.Format.{Format}
+use Rattle.planfile.specs.Faults.{first-fault}
 use Rattle.planfile.specs.Header.{Passes}
 use Rattle.planfile.specs.Reading.{reading-refusal, faulty-record, file-records, stations-of, count-of, marked}
 use Rattle.planfile.specs.Records.{records-of}

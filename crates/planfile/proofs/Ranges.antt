@@ -4,7 +4,7 @@ use mathlib.Core.Bool.{false}
 use Prim.Native.Nat.{ℕ, _≤_}
 use lib.Dec.{ltb}
 use Rattle.std.proofs.shelf.Tests.{le-ltb, ltb-false, or-from, or-parts}
-use Rattle.planfile.specs.Faults.{outside}
+use Rattle.filekind.specs.Outside.{outside}
 
 module _ (low high v : ℕ) where
   pub inside : low ≤ v → v ≤ high → outside low high v ≡ false

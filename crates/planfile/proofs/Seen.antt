@@ -11,8 +11,8 @@ use Rattle.std.proofs.shelf.Lists.{getD-set-same, getD-set-other, length-set}
 use Rattle.std.proofs.shelf.Tests.{cases-eq, cases-lt, le-leb, or-left, or-right}
 use Rattle.std.proofs.shelf.Ways.{tells}
 use Rattle.std.specs.declared.option.Option.the-variants.{None}
+use Rattle.filekind.specs.Format.{Format}
 use Rattle.planfile.specs.Faults.{fault, repeats}
-use Rattle.planfile.specs.Format.{Format}
 use Rattle.planfile.specs.declared.fields.Fields.{Fields}
 
 abbrev pub place : Fields → ℕ

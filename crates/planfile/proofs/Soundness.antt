@@ -12,10 +12,11 @@ use Rattle.std.specs.Options.{mapped}
 use Rattle.std.specs.declared.option.Option.{Option}
 use Rattle.std.specs.declared.option.Option.the-variants.{Some, None}
 use Rattle.std.specs.shelf.Lists.{All}
+use Rattle.filekind.specs.Format.{Format}
+use Rattle.filekind.specs.Outside.{outside}
 use Rattle.refusal.specs.First.{refused-if}
 use Rattle.planfile.specs.Bytes.{number-at}
-use Rattle.planfile.specs.Faults.{fault, first-fault, or-else, outside, repeats}
-use Rattle.planfile.specs.Format.{Format}
+use Rattle.planfile.specs.Faults.{fault, first-fault, or-else, repeats}
 use Rattle.planfile.specs.Header.{Passes}
 use Rattle.planfile.specs.Reading.{reading-refusal, faulty-record, file-records, stations-of, count-of, marked}
 use Rattle.planfile.specs.Sound.{Differs, LinkSound, Laid}

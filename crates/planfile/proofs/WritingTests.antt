@@ -6,7 +6,7 @@ use lib.ListN.{length}
 use Rattle.std.proofs.shelf.Tests.{le-ltb}
 use Rattle.cost.specs.Kind.{Kind}
 use Rattle.cost.specs.declared.link.Link.{Link}
-use Rattle.planfile.specs.Format.{Format}
+use Rattle.filekind.specs.Format.{Format}
 use Rattle.planfile.specs.Records.{fields-of}
 use Rattle.planfile.specs.Writing.{first-outside, writing-refusal}
 use Rattle.planfile.proofs.Ranges.{inside}

@@ -11,8 +11,8 @@ use lib.ListN.{length}
 use Rattle.std.specs.Joined.{joined}
 use Rattle.cost.specs.Kind.{Kind}
 use Rattle.cost.specs.declared.link.Link.{Link}
+use Rattle.filekind.specs.Format.{Format}
 use Rattle.planfile.specs.Bytes.{bytes}
-use Rattle.planfile.specs.Format.{Format}
 use Rattle.planfile.specs.Records.{field-bytes, fields-of}
 use Rattle.planfile.specs.declared.fields.Fields.{Fields}
 

@@ -1,25 +1,22 @@
 -- Faults of records, with their numbers: 21 and the layer field for a cost, 3, 4 and 6 and the layer record for stations.
 --
---   outside low high v           v is not in the range from low to high
 --   repeats earlier x            the pair of x stands in an earlier record
 --   fault f n k again x          the first fault of record k on a plan of n stations, its pair being there already or not
 --   first-fault f n earlier xs   the first fault of the records xs, which follow the records earlier
 use mathlib.Core.Bool.{Bool, false, _&&_, _||_}
 use mathlib.Core.List.{List, [], _∷_, _++_}
 use Prim.Native.Nat.{ℕ}
-use lib.Dec.{eqb, leb, ltb}
+use lib.Dec.{eqb, leb}
 use lib.ListN.{length}
 use Rattle.std.specs.declared.option.Option.{Option}
 use Rattle.std.specs.declared.option.Option.the-variants.{Some, None}
+use Rattle.filekind.specs.Format.{Format}
+use Rattle.filekind.specs.Outside.{outside}
 use Rattle.refusal.specs.First.{refused-if}
 use Rattle.refusal.specs.declared.Facts.{Facts}
 use Rattle.refusal.specs.declared.Facts.the-variants.{Below}
 use Rattle.refusal.specs.declared.Layer.the-variants as layer
-use Rattle.planfile.specs.Format.{Format}
 use Rattle.planfile.specs.declared.fields.Fields.{Fields}
-
-abbrev pub outside : ℕ → ℕ → ℕ → Bool
-outside low high v = ltb v low || ltb high v
 
 abbrev pub repeats : List Fields → Fields → Bool
 repeats [] x = false

@@ -6,8 +6,8 @@ use mathlib.Core.Path.{_≡_}
 use mathlib.Core.List.{List}
 use Prim.Native.Nat.{ℕ, _+_, _*_, _≤_}
 use lib.ListN.{getD, length}
+use Rattle.filekind.specs.Format.{Format}
 use Rattle.planfile.specs.Bytes.{number-at}
-use Rattle.planfile.specs.Format.{Format}
 use Rattle.planfile.specs.Reading.{count-of, stations-of}
 
 pub record Passes (f : Format) (places : ℕ) (bs : List ℕ) : Type 0 where

@@ -1,5 +1,4 @@
 pub mod Fronted
-pub mod Format
 pub mod Bytes
 pub mod Records
 pub mod Encoding

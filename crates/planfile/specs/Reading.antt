@@ -15,13 +15,14 @@ use Rattle.std.specs.Options.{mapped}
 use Rattle.std.specs.declared.option.Option.{Option}
 use Rattle.cost.specs.Kind.{Kind}
 use Rattle.cost.specs.declared.link.Link.{Link}
+use Rattle.filekind.specs.Format.{Format}
+use Rattle.filekind.specs.Outside.{outside}
 use Rattle.refusal.specs.Code.{bare}
 use Rattle.refusal.specs.First.{refused-if}
 use Rattle.refusal.specs.declared.Code.{Code}
 use Rattle.refusal.specs.declared.Facts.{Facts}
 use Rattle.planfile.specs.Bytes.{number-at}
-use Rattle.planfile.specs.Faults.{outside, first-fault}
-use Rattle.planfile.specs.Format.{Format}
+use Rattle.planfile.specs.Faults.{first-fault}
 use Rattle.planfile.specs.Records.{link-of, records-of}
 use Rattle.planfile.specs.declared.counts.Counts.{Counts}
 use Rattle.planfile.specs.declared.fields.Fields.{Fields}

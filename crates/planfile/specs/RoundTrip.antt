@@ -20,8 +20,8 @@ use Rattle.std.specs.declared.option.Option.the-variants.{None}
 use Rattle.std.specs.shelf.Lists.{All}
 use Rattle.cost.specs.Kind.{Kind}
 use Rattle.cost.specs.declared.link.Link.{Link}
+use Rattle.filekind.specs.Format.{Format}
 use Rattle.planfile.specs.Encoding.{encoding, file-of}
-use Rattle.planfile.specs.Format.{Format}
 use Rattle.planfile.specs.Reading.{count-of, links-of, reading-refusal, stations-of}
 use Rattle.planfile.specs.Records.{fields-of}
 use Rattle.planfile.specs.Sound.{Sound}

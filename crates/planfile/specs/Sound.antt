@@ -10,7 +10,7 @@ use mathlib.Core.List.{List, [], _∷_, _++_}
 use Prim.Native.Nat.{ℕ, _≤_, _<_}
 use lib.ListN.{length}
 use Rattle.std.specs.shelf.Lists.{All}
-use Rattle.planfile.specs.Format.{Format}
+use Rattle.filekind.specs.Format.{Format}
 use Rattle.planfile.specs.declared.fields.Fields.{Fields}
 
 abbrev pub Differs : Fields → Fields → Type 0

@@ -10,12 +10,12 @@ use Rattle.std.specs.declared.option.Option.{Option}
 use Rattle.std.specs.declared.option.Option.the-variants.{None}
 use Rattle.cost.specs.Kind.{Kind}
 use Rattle.cost.specs.declared.link.Link.{Link}
+use Rattle.filekind.specs.Format.{Format}
+use Rattle.filekind.specs.Outside.{outside}
 use Rattle.refusal.specs.Code.{bare}
 use Rattle.refusal.specs.First.{refused-if}
 use Rattle.refusal.specs.declared.Code.{Code}
 use Rattle.refusal.specs.declared.Facts.the-variants.{AtRecord}
-use Rattle.planfile.specs.Faults.{outside}
-use Rattle.planfile.specs.Format.{Format}
 use Rattle.planfile.specs.Records.{fields-of}
 use Rattle.planfile.specs.declared.fields.Fields.{Fields}
 

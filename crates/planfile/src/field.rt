@@ -5,10 +5,10 @@ ghost use Rattle.std.specs.Results.{errPart};
 ghost use Rattle.std.specs.Options.{valueOr};
 ghost use Rattle.std.specs.Vec.{made};
 ghost use Rattle.std.specs.declared.option.Option.the-variants.{Some, None};
-ghost use Rattle.planfile.specs.Faults.{outside};
-ghost use Rattle.planfile.specs.Format.{Ranged};
-use super::kind::FileKind;
-use super::kind::LinkRange;
+ghost use Rattle.filekind.specs.Format.{Ranged};
+ghost use Rattle.filekind.specs.Outside.{outside};
+use filekind::FileKind;
+use filekind::LinkRange;
 use refusal::FieldFault;
 
 // The cost that a number of the link range forms; a number outside it is a fault of the record.

@@ -8,7 +8,7 @@ ghost use Rattle.refusal.specs.Code.{code-of};
 ghost use Rattle.planfile.specs.Header.{Passes};
 ghost use Rattle.planfile.specs.Reading.{count-of, reading-refusal, stations-of};
 use super::counts::Counts;
-use super::kind::FileKind;
+use filekind::FileKind;
 use refusal::Refusal;
 
 // The counts of a header that passes, for a list of so many places, and the bytes of the records.

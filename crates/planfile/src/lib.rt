@@ -1,11 +1,10 @@
 // Plan files: a plan's stations and links as bytes, both ways, in three layers: field, record and file.
-// Rests on the cost kinds and the refusals.
+// Rests on the file kinds, the cost kinds and the refusals.
 // Accounts are made of what it reads.
 mod counts;
 mod field;
 mod fields;
 mod header;
-mod kind;
 mod pairs;
 mod reading;
 mod record;
@@ -13,9 +12,5 @@ mod writing;
 
 pub use counts::Counts;
 pub use fields::Fields;
-pub use kind::FileKind;
-pub use kind::LinkRange;
-pub use kind::SplitFile;
-pub use kind::SumFile;
 pub use reading::read;
 pub use writing::write;

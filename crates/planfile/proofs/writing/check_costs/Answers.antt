@@ -2,7 +2,7 @@
 use mathlib.Core.Path.{sym, ap, ap₂, _∙_}
 use mathlib.Core.List.{map}
 use Rattle.std.proofs.shelf.Lists.{at-drop-all}
-use Rattle.planfile.specs.Faults.{outside}
+use Rattle.filekind.specs.Outside.{outside}
 use Rattle.planfile.specs.Records.{fields-of}
 use Rattle.planfile.specs.Writing.{first-outside}
 use Rattle.planfile.proofs.FirstOutside.{inside-here, outside-here}

@@ -1,28 +1,12 @@
 // File kinds: a cost kind with what a plan file has of it, a kind byte, a word and a range of link costs.
 ghost use mathlib.Core.Path.{_≡_};
-ghost use Rattle.planfile.specs.Faults.{outside};
-ghost use Rattle.planfile.specs.Format.{Format, Ranged, sum-format, split-format};
+ghost use Rattle.filekind.specs.Format.{Format, Ranged, sum-format, split-format};
+use super::range::LinkRange;
 use cost::Cost;
 use cost::Split;
 use cost::SplitCost;
 use cost::Sum;
 use cost::SumCost;
-
-// The numbers that a link's cost may have in a file, both ends included.
-#[derive(Clone, Copy)]
-pub struct LinkRange {
-    pub low: u64,
-    pub high: u64,
-}
-
-impl LinkRange {
-    // Whether a number is outside the range.
-    pub fn excludes(self, number: u64) -> bool
-        ensures value { λ r. ⌜ r ≡ outside (self .low) (self .high) number ⌝ }
-    {
-        number < self.low || number > self.high
-    }
-}
 
 pub trait FileKind: Cost {
     const BYTE: u8;

@@ -13,7 +13,7 @@ use lib.Chars.{codes}
 use Rattle.std.specs.Options.{isSome}
 use Rattle.std.specs.declared.option.Option.{Option}
 use Rattle.cost.specs.Kind.{Kind, FAR}
-use Rattle.planfile.specs.declared.kind.LinkRange.{LinkRange}
+use Rattle.filekind.specs.declared.range.LinkRange.{LinkRange}
 
 pub record Format : Type 0 where
   pub byte : ℕ
