@@ -4,6 +4,7 @@ use mathlib.Core.List.{List, [], _∷_, _++_}
 use Prim.Native.Nat.{ℕ, _+_, _<_}
 use lib.ListN.{length, getD, set, take, drop}
 use Rattle.std.proofs.shelf.Lists.{append-assoc, drop-at, drop-drop, drop-more, set-at, take-at}
+use Rattle.planfile.specs.Fronted.{fronted}
 
 pub stored-more : {X : Type 0} (new old : List X) (i : ℕ) (y : X) → length new ≡ i → i < length old → set (new ++ drop i old) i y ≡ (new ++ (y ∷ [])) ++ drop (i + 1) old
 stored-more new old i y long within =
@@ -12,10 +13,10 @@ stored-more new old i y long within =
     ∙ sym (append-assoc new (y ∷ []) (drop (i + 1) old))
 
 -- the same for a part, pasted after what is written
-pub pasted-more : {X : Type 0} (new old part : List X) (i : ℕ) → length new ≡ i → take i (new ++ drop i old) ++ (part ++ drop (i + length part) (new ++ drop i old)) ≡ (new ++ part) ++ drop (i + length part) old
+pub pasted-more : {X : Type 0} (new old part : List X) (i : ℕ) → length new ≡ i → take i (new ++ drop i old) ++ fronted part (drop i (new ++ drop i old)) ≡ (new ++ part) ++ drop (i + length part) old
 pasted-more new old part i long =
-    ap₂ (λ front back. front ++ (part ++ back)) (take-at new (drop i old) i long)
-    (sym (drop-drop (length part) i (new ++ drop i old)) ∙ ap (drop (length part)) (drop-at new (drop i old) i long) ∙ drop-drop (length part) i old)
+    ap₂ (λ front back. front ++ fronted part back) (take-at new (drop i old) i long) (drop-at new (drop i old) i long)
+    ∙ ap (λ back. new ++ (part ++ back)) (drop-drop (length part) i old)
     ∙ sym (append-assoc new part (drop (i + length part) old))
 
 -- a part after the front of i elements, which has been written

@@ -105,7 +105,7 @@ fn record_bytes<K: FileKind>(link: &Link<K>) -> [u8; 12]
 // Copies a part into the buffer at a place.
 fn paste(buffer: &mut [u8], at: usize, part: &[u8])
     requires { ⌜ at + length (now part) ≤ length (now buffer) ⌝ }
-    ensures after { λ _. ⌜ now (buffer .exit) ≡ take at (now (buffer .entry)) ++ (now (part .entry) ++ drop (at + length (now (part .entry))) (now (buffer .entry))) ⌝ }
+    ensures after { λ _. ⌜ now (buffer .exit) ≡ take at (now (buffer .entry)) ++ fronted (now (part .entry)) (drop at (now (buffer .entry))) ⌝ }
 {
     let end = at + part.len();
     buffer[at..end].copy_from_slice(part);

@@ -7,6 +7,7 @@ use Rattle.std.proofs.shelf.Lists.{length-map, take-at}
 use Rattle.std.proofs.shelf.Results.{err-from-errBy}
 use Rattle.std.specs.Joined.{joined}
 use Rattle.planfile.specs.Encoding.{file-of, header}
+use Rattle.planfile.specs.Fronted.{fronted}
 use Rattle.planfile.specs.Records.{field-bytes, fields-of}
 use Rattle.planfile.specs.RoundTrip.{ReadsBack}
 use Rattle.planfile.proofs.BothWays.{reads-back, unambiguous}
@@ -39,7 +40,7 @@ returns g c =
     let long : length file ≡ 10 + 12 * length links = length-encoding f n xs ∙ ap (λ k. 10 + 12 * k) count in
     let len : c .in-Continue-len .len ≡ length file = told .value .0 ∙ sym long in
     let front : c .header-bytes .result ≡ header f n (length xs) = c .header-bytes .ensures .value ∙ ap (header f n) (sym count) in
-    let begun : c .paste .last .buffer ≡ header f n (length xs) ++ drop 10 old = c .paste .ensures .after ∙ ap (λ l. l ++ drop (0 + length l) old) front in
+    let begun : c .paste .last .buffer ≡ header f n (length xs) ++ drop 10 old = c .paste .ensures .after ∙ ap (λ l. fronted l old) front in
     let whole : c .write-records .last .buffer ≡ file ++ drop (length file) old = c .write-records .ensures .after ∙ assembled (header f n (length xs)) (joined field-bytes xs) old (c .paste .last .buffer) 10 (12 * length links) refl begun ∙ ap (λ k. file ++ drop k old) (sym long) in
     let taken : take (c .in-Continue-len .len) (c .write-records .last .buffer) ≡ file = ap₂ take len whole ∙ take-at file (drop (length file) old) (length file) refl in
     record {

@@ -8,6 +8,7 @@ use Rattle.std.proofs.shelf.Lists.{append-nil, joined-more, length-append, leng
 use Rattle.std.specs.Joined.{joined}
 use Rattle.cost.specs.Kind.{Kind}
 use Rattle.cost.specs.declared.link.Link.{Link}
+use Rattle.planfile.specs.Fronted.{fronted}
 use Rattle.planfile.specs.Records.{field-bytes, fields-of}
 use Rattle.planfile.proofs.RecordBytes.{length-records}
 use Rattle.planfile.proofs.Stored.{pasted-more}
@@ -37,7 +38,7 @@ loop-index-again g c =
     let more = ap (λ l. take 10 old ++ joined field-bytes l) (map-more (fields-of m) links i x (c .loop-index-test .taken) ∙ ap (λ y. map (fields-of m) (take i links) ++ (fields-of m y ∷ [])) (sym (c .index-links-index .is))) in
     let pushed = ap (λ p. new ++ p) (c .record-bytes .ensures .value) ∙ joined-more field-bytes (take 10 old) (map (fields-of m) (take i links)) (fields-of m x) ∙ sym more in
     c .paste .ensures .after
-    ∙ ap (λ b. take at b ++ (part ++ drop (at + length part) b)) (c .loop-index .inv)
+    ∙ ap (λ b. take at b ++ fronted part (drop at b)) (c .loop-index .inv)
     ∙ pasted-more new old part at (written m links old i (omega arith) (omega arith))
     ∙ ap₂ (λ p k. p ++ drop k old) pushed (omega (arith, twelve))
 
