@@ -2,18 +2,30 @@
 use mathlib.Core.Path.{_≡_, sym, ap, ap₂, subst, _∙_}
 use mathlib.Core.Bool.{Bool, true, false}
 use mathlib.Core.List.{List, [], _∷_, _++_}
-use Prim.Native.Nat.{ℕ, _+_, _≤_, _<_}
+use Prim.Native.Nat.{ℕ, _+_, _*_, _≤_, _<_}
 use native.Mathlib.Nat.{le-of-lt}
+use native.Mathlib.Omega.{arith}
 use lib.ListN.{length, getD, set, take, drop}
 use Rattle.std.proofs.shelf.Lists.{at-drop-more, take-more, length-take-le}
 use Rattle.std.specs.declared.option.Option.the-variants.{Some, None}
 use Rattle.filekind.specs.Format.{Format}
 use Rattle.refusal.specs.declared.Facts.{Facts}
 use Rattle.planfile.specs.Faults.{fault, first-fault, or-else, repeats}
+use Rattle.planfile.specs.Records.{first-fields, records-of}
 use Rattle.planfile.specs.declared.fields.Fields.{Fields}
+use Rattle.planfile.proofs.RecordBytes.{length-records-of, record-here}
 use Rattle.planfile.proofs.Seen.{Holds, place, holds-more, fault-seen, sound-low}
 
-module _ (f : Format) (n : ℕ) (few : n ≤ 256) (xs : List Fields) (i : ℕ) (within : i < length xs) (seen : List Bool) (holds : Holds seen (take i xs)) (x : Fields) (item : x ≡ getD xs i x) where
+module _ (f : Format) (n : ℕ) (few : n ≤ 256) (count : ℕ) (bs : List ℕ) (i : ℕ) (below : i < count) (seen : List Bool) (holds : Holds seen (take i (records-of count bs))) (x : Fields) (is : x ≡ first-fields (drop (12 * i) bs)) where
+  abbrev xs : List Fields
+  xs = records-of count bs
+
+  within : i < length xs
+  within = omega (arith, length-records-of count bs)
+
+  item : x ≡ getD xs i x
+  item = record-here count bs i x below is
+
   pushed : take (i + 1) xs ≡ take i xs ++ (x ∷ [])
   pushed = take-more xs i x within ∙ ap (λ y. take i xs ++ (y ∷ [])) (sym item)
 

@@ -3,6 +3,7 @@ pub mod Codec
 pub mod FileBytes
 pub mod FirstFault
 pub mod FirstOutside
+pub mod FrontLinks
 pub mod HeaderTests
 pub mod Ranges
 pub mod RecordBytes

@@ -73,9 +73,6 @@ length-records (x ∷ xs) = ap (λ n. suc (suc (suc (suc (suc (suc (suc (suc (su
 pub length-records-of : (count : ℕ) (bs : List ℕ) → length (records-of count bs) ≡ count
 length-records-of count bs = length-map-counting (λ k. first-fields (drop (12 * k) bs)) 0 count
 
--- what is read at `&bs[12 * k..]` is record k
-pub record-here : (count : ℕ) (bs : List ℕ) (k : ℕ) (x : Fields) → k < count → (x .from ≡ first-fields (take (length bs - 12 * k) (drop (12 * k) bs)) .from) → (x .to ≡ first-fields (take (length bs - 12 * k) (drop (12 * k) bs)) .to) → (x .number ≡ first-fields (take (length bs - 12 * k) (drop (12 * k) bs)) .number) → x ≡ getD (records-of count bs) k x
-record-here count bs k x below from to number =
-    same-fields x (first-fields (take (length bs - 12 * k) (drop (12 * k) bs))) from to number
-    ∙ ap first-fields (take-rest bs (12 * k))
-    ∙ sym (getD-map-counting (λ j. first-fields (drop (12 * j) bs)) 0 count k k x below (omega arith))
+-- record k of the records
+pub record-here : (count : ℕ) (bs : List ℕ) (k : ℕ) (x : Fields) → k < count → x ≡ first-fields (drop (12 * k) bs) → x ≡ getD (records-of count bs) k x
+record-here count bs k x below is = is ∙ sym (getD-map-counting (λ j. first-fields (drop (12 * j) bs)) 0 count k k x below (omega arith))

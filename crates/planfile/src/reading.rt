@@ -66,8 +66,7 @@ fn check_records<K: FileKind>(
 {
     let mut seen = Pairs::new();
     for index in 0..counts.links {
-        let at = 12 * index as usize;
-        let fields = Fields::first(&records[at..]);
+        let fields = Fields::nth(records, index);
         read_link::<K>(range, counts.stations, index, fields, &mut seen)?;
     }
     Ok(())
@@ -80,8 +79,7 @@ fn store<K: FileKind>(links: u16, records: &[u8], list: &mut [Link<K>])
     ensures after { λ _. ⌜ now (list .exit) ≡ map (link-of (K·Cost .kind) (K·Cost .formed)) (records-of links (now (records .entry))) ++ drop links (now (list .entry)) ⌝ }
 {
     for index in 0..links {
-        let at = 12 * index as usize;
-        let fields = Fields::first(&records[at..]);
+        let fields = Fields::nth(records, index);
         put(list, index as usize, fields.link::<K>());
     }
 }

@@ -2,7 +2,7 @@
 ghost use mathlib.Core.Path.{_≡_};
 ghost use mathlib.Core.Bool.{true, false};
 ghost use Prim.Native.Nat.{_+_, _*_, _≤_};
-ghost use lib.ListN.{getD, set, length};
+ghost use lib.ListN.{drop, getD, length, set};
 ghost use Rattle.std.specs.Vec.{made};
 ghost use Rattle.filekind.specs.Format.{Ranged};
 ghost use Rattle.refusal.specs.First.{fault-told};
@@ -19,7 +19,7 @@ use refusal::RecordFaultFromField;
 
 impl Fields {
     // The fields of the record that the bytes begin with.
-    pub(crate) fn first(bytes: &[u8]) -> Fields
+    fn first(bytes: &[u8]) -> Fields
         requires { ⌜ 12 ≤ length (now bytes) ⌝ }
         ensures from { λ r. ⌜ r .from ≡ first-fields (now (bytes .entry)) .from ⌝ }
         ensures to { λ r. ⌜ r .to ≡ first-fields (now (bytes .entry)) .to ⌝ }
@@ -42,6 +42,15 @@ impl Fields {
             to: u16::from_be_bytes(to),
             number: u64::from_be_bytes(number),
         }
+    }
+
+    // The fields of the record that so many others stand before.
+    pub(crate) fn nth(records: &[u8], index: u16) -> Fields
+        requires { ⌜ 12 * index + 12 ≤ length (now records) ⌝ }
+        ensures value { λ r. ⌜ r ≡ first-fields (drop (12 * index) (now (records .entry))) ⌝ }
+    {
+        let start = 12 * index as usize;
+        Fields::first(&records[start..])
     }
 
     // The link that the fields stand for.

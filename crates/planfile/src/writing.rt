@@ -8,6 +8,7 @@ ghost use Rattle.std.specs.Joined.{joined};
 ghost use Rattle.std.specs.Results.{isOk};
 ghost use Rattle.std.specs.Vec.{made};
 ghost use Rattle.filekind.specs.Format.{Ranged};
+ghost use Rattle.filekind.specs.Outside.{outside};
 ghost use Rattle.refusal.specs.First.{field-told, told};
 ghost use Rattle.planfile.specs.Encoding.{file-of, header};
 ghost use Rattle.planfile.specs.Fronted.{fronted};
@@ -48,13 +49,21 @@ fn check_costs<K: FileKind>(range: LinkRange, links: &[Link<K>]) -> Result<(), F
     ensures refused { λ r. ⌜ field-told r ≡ first-outside (K·FileKind .format) 0 (map (fields-of (K·Cost .kind)) (now (links .entry))) ⌝ }
 {
     for (index, link) in links.iter().enumerate() {
-        if range.excludes(link.cost.rank()) {
+        if costs_outside(range, link) {
             return Err(FieldFault {
                 index: index as u16,
             });
         }
     }
     Ok(())
+}
+
+// Whether a link's cost is outside the range.
+fn costs_outside<K: FileKind>(range: LinkRange, link: &Link<K>) -> bool
+    requires { ⌜ Ranged (K·Cost .kind) (K·Cost .formed) (K·FileKind .format) range ⌝ }
+    ensures value { λ r. ⌜ r ≡ outside (K·FileKind .format .low) (K·FileKind .format .high) (K·Cost .kind .rank (now (link .entry) .cost)) ⌝ }
+{
+    range.excludes(link.cost.rank())
 }
 
 // The length of the plan's file, or the first refusal that fits a buffer of so many bytes.

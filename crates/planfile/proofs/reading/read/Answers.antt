@@ -2,7 +2,7 @@
 use mathlib.Core.Path.{_≡_, refl, sym, ap, ap₂, subst⁻¹, _∙_}
 use mathlib.Core.List.{map, _++_}
 use lib.ListN.{length, take, drop}
-use Rattle.std.proofs.shelf.Lists.{length-map, take-at, take-rest}
+use Rattle.std.proofs.shelf.Lists.{take-rest}
 use Rattle.std.proofs.shelf.Results.{err-from-errBy}
 use Rattle.refusal.specs.First.{told}
 use Rattle.planfile.specs.Encoding.{encoding}
@@ -11,7 +11,7 @@ use Rattle.planfile.specs.Reading.{count-of, file-records, links-of, reading-r
 use Rattle.planfile.specs.Records.{link-of, records-of}
 use Rattle.planfile.specs.RoundTrip.{Holds}
 use Rattle.planfile.proofs.BothWays.{accepted, file-holds, ok-from-told}
-use Rattle.planfile.proofs.RecordBytes.{length-records-of}
+use Rattle.planfile.proofs.FrontLinks.{links-counted, links-in-front}
 use Rattle.planfile.proofs.reading.read.Needs as need
 
 pub returns-in-Break-counts : need.returns-in-Break-counts
@@ -41,9 +41,8 @@ returns g c =
     let counts = c .in-Continue-counts .counts in
     let count : counts .links ≡ count-of bs = ap (λ x. x .links) (told .value) in
     let stations : counts .stations ≡ stations-of bs = ap (λ x. x .stations) (told .value) in
-    let long : length (links-of m formed bs) ≡ count-of bs = length-map (file-records bs) (link-of m formed) ∙ length-records-of (count-of bs) (drop 10 bs) in
-    let stored : c .store .last .list ≡ fronted (links-of m formed bs) list = c .store .ensures .after ∙ ap₂ (λ k records. map (link-of m formed) (records-of k records) ++ drop k list) count (take-rest bs 10) ∙ ap (λ k. links-of m formed bs ++ drop k list) (sym long) in
-    let read : take (counts .links) (c .store .last .list) ≡ links-of m formed bs = ap₂ take (count ∙ sym long) stored ∙ take-at (links-of m formed bs) (drop (length (links-of m formed bs)) list) (length (links-of m formed bs)) refl in
+    let stored : c .store .last .list ≡ fronted (links-of m formed bs) list = c .store .ensures .after ∙ ap₂ (λ k records. map (link-of m formed) (records-of k records) ++ drop k list) count (take-rest bs 10) ∙ ap (λ k. links-of m formed bs ++ drop k list) (sym (links-counted m formed bs)) in
+    let read : take (counts .links) (c .store .last .list) ≡ links-of m formed bs = ap₂ take count stored ∙ links-in-front m formed bs list in
     let whole = file-holds m formed (g .K·Cost·met .numbered) f (c .link-range-range .result) (c .link-range-range .ensures .value) (length list) bs (sym (told .refused)) (ap (λ k. encoding f k (file-records bs)) (sym stations) ∙ told .encoded) in
     record {
       refused = told .refused;

@@ -16,10 +16,10 @@ loop-index-again g c =
     let old = c .args .list .now in
     let i = c .loop-index .index in
     let xs = records-of (c .args .links) bs in
-    let x = c .first-fields .result in
+    let x = c .nth-fields .result in
     let link = link-of (g .K·Cost .kind) (g .K·Cost .formed) in
     let inside : i < length xs = omega (arith, length-records-of (c .args .links) bs) in
-    let item = record-here (c .args .links) bs i x (c .loop-index-test .taken) (c .first-fields .ensures .from) (c .first-fields .ensures .to) (c .first-fields .ensures .number) in
+    let item = record-here (c .args .links) bs i x (c .loop-index-test .taken) (c .nth-fields .ensures .value) in
     let written = length-map (take i xs) link ∙ length-take-le i xs (omega arith) in
     let more : take (i + 1) xs ≡ take i xs ++ (x ∷ []) = take-more xs i x inside ∙ ap (λ y. take i xs ++ (y ∷ [])) (sym item) in
     c .put .ensures .after
