@@ -93,8 +93,7 @@ fn account_of<K: FileKind>(heap: Global, bytes: &[u8]) -> Result<String, AllocEr
 pub fn account(heap: Global, bytes: &[u8]) -> Result<String, AllocError>
     ensures value { λ r. ⌜ made r (λ s. string-bytes s ≡ account-of (now (bytes .entry))) ⌝ }
 {
-    let split = bytes.len() > 5 && bytes[5] == 1;
-    if split {
+    if bytes.get(5).copied() == Some(1) {
         account_of::<Split>(heap, bytes)
     } else {
         account_of::<Sum>(heap, bytes)

@@ -51,9 +51,5 @@ fn capped_product(a: u64, b: u64) -> u64
     ensures value { λ r. ⌜ r ≡ min (a * b) (2 ^ 64 - 1) ⌝ }
 {
     let product = (a as u128) * (b as u128);
-    if product > u64::MAX as u128 {
-        u64::MAX
-    } else {
-        product as u64
-    }
+    u64::try_from(product).unwrap_or(u64::MAX)
 }
