@@ -45,7 +45,7 @@ pub trait Cost: Copy {
 
 // The join of costs from first to last, beginning with zero.
 pub fn total<K: Cost>(costs: &[K]) -> K
-    ensures value { result ≡ joins kind costs.now }
+    ensures value { result ≡ joins K.kind costs.now }
 {
     let mut whole = K::zero();
     for cost in costs {

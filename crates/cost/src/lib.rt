@@ -1,6 +1,8 @@
 // Cost kinds: what a cost is, how costs join along a walk, and the laws that every kind shows.
 // Rests on the refusals.
 // What rests on it is written for any kind that shows the laws.
+#![tactic(auto)]
+
 mod kind;
 mod link;
 mod split;

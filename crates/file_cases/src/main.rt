@@ -4,6 +4,8 @@
 //     write KIND STATIONS ROOM LINKS writes the links, as 0-1-7,1-2-9, into a buffer of so many bytes
 //     form KIND NUMBER               forms a cost of the kind
 //     # words                        repeats the words
+#![tactic(auto)]
+
 use cost::{Cost, Link, Split, Sum};
 use filekind::FileKind;
 use planfile::{read, write};

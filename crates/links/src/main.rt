@@ -1,6 +1,8 @@
 // `links < plan.cpl`: is this plan file sound, and what is in it?
 // Prints the kind, the counts and the links in order, or the refusal.
 // Rests on accounts, which are proved; reading and printing are only tested.
+#![tactic(auto)]
+
 use account::{account, bytes_to_read};
 use std::io;
 use std::io::Read;

@@ -1,6 +1,8 @@
 // Refusals: how every call of the library turns an input down, and the one numbering of them.
 // Rests on nothing.
 // Every crate above answers with these types.
+#![tactic(auto)]
+
 ghost use Rattle.std.specs.Prelude.{◌≡◌};
 ghost use Rattle.refusal.specs.Code.{bare as bare_code, code_of, fault_code};
 ghost use Rattle.refusal.specs.declared.RecordFault.TheVariants.{Field as field_of_record};

@@ -17,4 +17,4 @@ returns g c =
     let read : take c.in-Ok.counts.links c.read.new.list ≡ links_of m formed bs = ap₂ take (ap (λ x. x.links) told.value) told.after ∙ links_in_front m formed bs list in
     let text = ap₂ (plan_text m f) told.value read in
     let verdict = ap (λ o. refused_or o (plan_text m f (counts_of bs) (links_of m formed bs))) told.refused in
-    record { value = IfOk-weaker c.list-lines.result _ (λ s. string_bytes s ≡ account_in m formed f (length list) bs) (λ s e. e ∙ text ∙ verdict) c.list-lines.ensures.value }
+    record { value = IfOk-weaker c.list_lines.result _ (λ s. string_bytes s ≡ account_in m formed f (length list) bs) (λ s e. e ∙ text ∙ verdict) c.list_lines.ensures.value }

@@ -7,7 +7,7 @@ use Rattle.account.specs.Lines.{link_line}
 use Rattle.account.proofs.text.plan_lines.Goals as goal
 
 pub loop-link-init : goal.loop-link-init
-loop-link-init g c = sym (append-nil (string_bytes c.in-ok-text.text))
+loop-link-init g c = sym (append-nil (string_bytes c.in_ok-text.text))
 
 pub loop-link-preserved : goal.loop-link-preserved
 loop-link-preserved g c =
@@ -15,9 +15,9 @@ loop-link-preserved g c =
     let links = c.args.links.now in
     let i = c.loop-link.link-index in
     let x = c.link-item.result in
-    let head = string_bytes c.in-ok-text.text in
-    let added = pushed c.as-str.result.now c.loop-link.invariant c.in-ok-push-str.was c.push-str.ensures.bytes in
-    let said = c.as-str.ensures.value ∙ c.in-ok-line.ensures.value in
+    let head = string_bytes c.in_ok-text.text in
+    let added = pushed c.as_str.result.now c.loop-link.invariant c.in_ok-push_str.was c.push_str.ensures.bytes in
+    let said = c.as_str.ensures.value ∙ c.in_ok-line.ensures.value in
     added
     ∙ ap (λ l. (head ++ flat_map line (take i links)) ++ l) said
     ∙ flat_map_more line head (take i links) x
@@ -26,4 +26,4 @@ loop-link-preserved g c =
 pub returns : goal.returns
 returns g c =
     let line = link_line g.K.Cost.kind in
-    record { value = c.loop-link.invariant ∙ ap₂ (λ h l. h ++ flat_map line l) c.in-ok-text.ensures.value (take_all c.loop-link.link-index c.args.links.now c.loop-link-test.false) }
+    record { value = c.loop-link.invariant ∙ ap₂ (λ h l. h ++ flat_map line l) c.in_ok-text.ensures.value (take_all c.loop-link.link-index c.args.links.now c.loop-link-test.false) }

@@ -20,17 +20,17 @@ loop-index-preserved g c =
     let count = c.args.counts.links in
     let bs = c.args.records.now in
     let turn = c.loop-index in
-    let told = c.in-ok-read-link.ensures in (
+    let told = c.in_ok-read_link.ensures in (
       subst⁻¹ (λ s. Holds s (take (turn.index + 1) (records_of count bs))) told.after (holds_here f n c.requires.few count bs turn.index c.loop-index-test.true turn.seen.seen turn.invariant.0 c.nth-fields.result c.nth-fields.ensures.value told.refused),
       no_fault_here f n c.requires.few count bs turn.index c.loop-index-test.true turn.seen.seen turn.invariant.0 c.nth-fields.result c.nth-fields.ensures.value told.refused ∙ turn.invariant.1,
     )
 
-pub returns-in-err-read-link : goal.returns-in-err-read-link
-returns-in-err-read-link g c =
+pub returns-in_err-read_link : goal.returns-in_err-read_link
+returns-in_err-read_link g c =
     let counts = c.args.counts in
     let turn = c.loop-index in
-    let found = fault_here g.K.FileKind.format counts.stations c.requires.few counts.links c.args.records.now turn.index c.loop-index-test.true turn.seen.seen turn.invariant.0 c.nth-fields.result c.nth-fields.ensures.value _ c.in-err-read-link.ensures.refused in
-    let p = err_from_is_err_and c.from-residual.result c.from-residual.ensures.1 in
+    let found = fault_here g.K.FileKind.format counts.stations c.requires.few counts.links c.args.records.now turn.index c.loop-index-test.true turn.seen.seen turn.invariant.0 c.nth-fields.result c.nth-fields.ensures.value _ c.in_err-read_link.ensures.refused in
+    let p = err_from_is_err_and c.from_residual.result c.from_residual.ensures.1 in
     rw (p.1, p.2) (record { refused = found ∙ turn.invariant.1 })
 
 pub returns : goal.returns

@@ -8,24 +8,24 @@ use Rattle.planfile.proofs.FileBytes.{file_is_encoding}
 use Rattle.planfile.proofs.HeaderTests.{verdict}
 use Rattle.planfile.proofs.reading.inspect.Goals as goal
 
-pub returns-in-err-check-records : goal.returns-in-err-check-records
-returns-in-err-check-records g c =
+pub returns-in_err-check_records : goal.returns-in_err-check_records
+returns-in_err-check_records g c =
     let bs = c.args.bytes.now in
-    let head = c.in-ok-counts.ensures in
-    let said = verdict g.K.FileKind.format c.args.places bs head.passes _ _ _ head.stations head.links (head.rest ∙ take_rest bs 10) _ c.in-err-check-records.ensures.refused in
-    let p = err_from_is_err_and c.from-residual-in-err-check-records.result c.from-residual-in-err-check-records.ensures.1 in
+    let head = c.in_ok-counts.ensures in
+    let said = verdict g.K.FileKind.format c.args.places bs head.passes _ _ _ head.stations head.links (head.rest ∙ take_rest bs 10) _ c.in_err-check_records.ensures.refused in
+    let p = err_from_is_err_and c.from_residual-in_err-check_records.result c.from_residual-in_err-check_records.ensures.1 in
     rw (p.1, p.2) (record { refused = said; value = tt; fits = tt; encoded = tt })
 
 pub returns : goal.returns
 returns g c =
     let bs = c.args.bytes.now in
     let f = g.K.FileKind.format in
-    let head = c.in-ok-counts.ensures in
+    let head = c.in_ok-counts.ensures in
     let passes = head.passes in
-    let said = verdict f c.args.places bs passes _ _ _ head.stations head.links (head.rest ∙ take_rest bs 10) _ c.in-ok-check-records.ensures.refused in
+    let said = verdict f c.args.places bs passes _ _ _ head.stations head.links (head.rest ∙ take_rest bs 10) _ c.in_ok-check_records.ensures.refused in
     record {
       refused = said;
       value = λ i. record { stations = head.stations i; links = head.links i };
       fits = (passes.long ∙ ap (λ k. 10 + 12 * k) (sym head.links), omega (arith, passes.enough_places, head.links));
-      encoded = ap (λ n. encoding f n (file_records bs)) head.stations ∙ file_is_encoding f c.args.places bs passes (λ i. (c.type-inv.bytes i).fits);
+      encoded = ap (λ n. encoding f n (file_records bs)) head.stations ∙ file_is_encoding f c.args.places bs passes (λ i. (c.type_inv.bytes i).fits);
     }

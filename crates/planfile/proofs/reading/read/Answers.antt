@@ -13,20 +13,20 @@ use Rattle.planfile.proofs.BothWays.{accepted, file_holds, ok_from_told}
 use Rattle.planfile.proofs.FrontLinks.{links_counted, links_in_front}
 use Rattle.planfile.proofs.reading.read.Goals as goal
 
-pub returns-in-err-counts : goal.returns-in-err-counts
-returns-in-err-counts g c =
+pub returns-in_err-counts : goal.returns-in_err-counts
+returns-in_err-counts g c =
     let f = g.K.FileKind.format in
     let bs = c.args.bytes.now in
     let places = length c.args.list.now in
-    let ranged = c.link-range-range.ensures.value in
-    let p = err_from_is_err_and c.from-residual.result c.from-residual.ensures.1 in
-    let said : told c.from-residual.result ≡ reading_refusal f places bs = rw (p.1, p.2) c.in-err-counts.ensures.refused in
+    let ranged = c.link_range-range.ensures.value in
+    let p = err_from_is_err_and c.from_residual.result c.from_residual.ensures.1 in
+    let said : told c.from_residual.result ≡ reading_refusal f places bs = rw (p.1, p.2) c.in_err-counts.ensures.refused in
     record {
       refused = said;
       value = rw p.1 tt;
       after = rw p.1 refl;
       holds = rw p.1 tt;
-      accepts = λ n xs sound some few enough e. ok_from_told c.from-residual.result (said ∙ ap (reading_refusal f places) (sym e) ∙ accepted f n xs places ranged.byte_fits ranged.far_out sound some few enough);
+      accepts = λ n xs sound some few enough e. ok_from_told c.from_residual.result (said ∙ ap (reading_refusal f places) (sym e) ∙ accepted f n xs places ranged.byte_fits ranged.far_out sound some few enough);
     }
 
 pub returns : goal.returns
@@ -36,13 +36,13 @@ returns g c =
     let formed = g.K.Cost.formed in
     let bs = c.args.bytes.now in
     let list = c.args.list.now in
-    let told = c.in-ok-counts.ensures in
-    let counts = c.in-ok-counts.counts in
+    let told = c.in_ok-counts.ensures in
+    let counts = c.in_ok-counts.counts in
     let count : counts.links ≡ count_of bs = ap (λ x. x.links) told.value in
     let stations : counts.stations ≡ stations_of bs = ap (λ x. x.stations) told.value in
     let stored : c.store.new.list ≡ fronted (links_of m formed bs) list = c.store.ensures.after ∙ ap₂ (λ k records. map (link_of m formed) (records_of k records) ++ drop k list) count (take_rest bs 10) ∙ ap (λ k. links_of m formed bs ++ drop k list) (sym (links_counted m formed bs)) in
     let read : take counts.links c.store.new.list ≡ links_of m formed bs = ap₂ take count stored ∙ links_in_front m formed bs list in
-    let whole = file_holds m formed g.met.K.Cost.numbered f c.link-range-range.result c.link-range-range.ensures.value (length list) bs (sym told.refused) (ap (λ k. encoding f k (file_records bs)) (sym stations) ∙ told.encoded) in
+    let whole = file_holds m formed g.met.K.Cost.numbered f c.link_range-range.result c.link_range-range.ensures.value (length list) bs (sym told.refused) (ap (λ k. encoding f k (file_records bs)) (sym stations) ∙ told.encoded) in
     record {
       refused = told.refused;
       value = told.value;

@@ -8,11 +8,11 @@ use Rattle.planfile.proofs.writing.check_costs.Goals as goal
 
 pub loop-index-preserved : goal.loop-index-preserved
 loop-index-preserved g c =
-    inside_here g.K.Cost.kind g.K.FileKind.format c.args.links.now c.loop-index.index c.loop-index-test.true c.index-links-index.result c.index-links-index.is (sym c.costs-outside.ensures.value ∙ c.if-costs-outside.false) ∙ c.loop-index.invariant
+    inside_here g.K.Cost.kind g.K.FileKind.format c.args.links.now c.loop-index.index c.loop-index-test.true c.index-links-index.result c.index-links-index.is (sym c.costs_outside.ensures.value ∙ c.if-costs_outside.false) ∙ c.loop-index.invariant
 
-pub returns-then-costs-outside : goal.returns-then-costs-outside
-returns-then-costs-outside g c =
-    record { refused = outside_here g.K.Cost.kind g.K.FileKind.format c.args.links.now c.loop-index.index c.loop-index-test.true c.index-links-index.result c.index-links-index.is (sym c.costs-outside.ensures.value ∙ c.if-costs-outside.true) ∙ c.loop-index.invariant }
+pub returns-then-costs_outside : goal.returns-then-costs_outside
+returns-then-costs_outside g c =
+    record { refused = outside_here g.K.Cost.kind g.K.FileKind.format c.args.links.now c.loop-index.index c.loop-index-test.true c.index-links-index.result c.index-links-index.is (sym c.costs_outside.ensures.value ∙ c.if-costs_outside.true) ∙ c.loop-index.invariant }
 
 pub returns : goal.returns
 returns g c =
