@@ -5,7 +5,7 @@ use Rattle.std.proofs.ByRecursion.{All-weaker}
 use Rattle.std.proofs.lemmas.List.{length-map}
 use Rattle.std.proofs.lemmas.Bool.{false≢true}
 use Rattle.std.specs.Option.{option_map}
-use Rattle.std.specs.List.{AllByRecursion as All}
+use Rattle.std.specs.List.{AllByRecursion}
 use Rattle.cost.specs.Forms.{Forms}
 use Rattle.cost.specs.Kind.{Kind, FAR}
 use Rattle.cost.specs.declared.link.Link.{Link}
@@ -39,14 +39,14 @@ pub record InRange (f : Format) (n : ℕ) (x : Fields) : Type 0 where
   pub from : x.from < n
   pub to : x.to < n
 
-in_range : (f : Format) (n : ℕ) (earlier xs : List Fields) → Laid f n earlier xs → All (InRange f n) xs
+in_range : (f : Format) (n : ℕ) (earlier xs : List Fields) → Laid f n earlier xs → AllByRecursion (InRange f n) xs
 in_range f n earlier [] laid = tt
 in_range f n earlier (x ∷ xs) laid = (record { low = laid.0.low; high = laid.0.high; from = laid.0.from; to = laid.0.to }, in_range f n (earlier ++ x ∷ []) xs laid.1)
 
 fits : (f : Format) (n : ℕ) → f.high < FAR → n ≤ 256 → (x : Fields) → InRange f n x → FieldsFit x
 fits f n far few x h = record { from = omega (arith, h.from); to = omega (arith, h.to); number = omega (arith, h.high) }
 
-none_outside : (f : Format) (n k : ℕ) (xs : List Fields) → All (InRange f n) xs → first_outside f k xs ≡ None
+none_outside : (f : Format) (n k : ℕ) (xs : List Fields) → AllByRecursion (InRange f n) xs → first_outside f k xs ≡ None
 none_outside f n k [] all = refl
 none_outside f n k (x ∷ xs) all = rw (inside f.low f.high x.number all.0.low all.0.high) (none_outside f n (k + 1) xs all.1)
 
@@ -65,7 +65,7 @@ module _ {K : Type 0} (m : Kind K) (formed : ℕ → Option K) (numbered : Forms
   rank_of_formed v (Some c) some says = says
 
   -- a link read from fields has those fields
-  fields_again : (f : Format) (r : LinkRange) (n : ℕ) → Ranged m formed f r → (xs : List Fields) → All (InRange f n) xs → map (fields_of m) (map (link_of m formed) xs) ≡ xs
+  fields_again : (f : Format) (r : LinkRange) (n : ℕ) → Ranged m formed f r → (xs : List Fields) → AllByRecursion (InRange f n) xs → map (fields_of m) (map (link_of m formed) xs) ≡ xs
   fields_again f r n ranged [] all = refl
   fields_again f r n ranged (x ∷ xs) all =
       let v = x.number in

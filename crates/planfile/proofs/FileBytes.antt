@@ -1,7 +1,7 @@
 -- Whole files: a file whose header passes is the encoding of its counts and records, and an encoding reads back.
 use Rattle.std.proofs.Common.{◌≡◌, ℕ, zero, suc, ◌+◌, ◌*◌, ◌/◌, ◌%◌, ◌<◌, ◌≤◌, List, [], ◌∷◌, ◌++◌, length, get_or, take, drop, sym, refl, ap, ◌∙◌, ap₂, arith}
 use Rattle.std.proofs.lemmas.List.{drop_more, take-append-drop, length-drop, length-append}
-use Rattle.std.specs.List.{flat_map, AllByRecursion as All}
+use Rattle.std.specs.List.{flat_map, AllByRecursion}
 use Rattle.filekind.specs.Format.{Format}
 use Rattle.planfile.specs.Bytes.{bytes}
 use Rattle.planfile.specs.Encoding.{header, encoding}
@@ -52,7 +52,7 @@ module _ (f : Format) (n : ℕ) (xs : List Fields) where
   pub count_read_back : length xs < 65536 → count_of (encoding f n xs) ≡ length xs
   count_read_back fits = number_of_bytes 2 (length xs) (encoding f n xs) (flat_map field_bytes xs) 8 refl fits
 
-  pub records_read_back : length xs < 65536 → All FieldsFit xs → file_records (encoding f n xs) ≡ xs
+  pub records_read_back : length xs < 65536 → AllByRecursion FieldsFit xs → file_records (encoding f n xs) ≡ xs
   records_read_back fits fit = ap (λ k. records_of k (flat_map field_bytes xs)) (count_read_back fits) ∙ records_of_bytes xs fit
 
   pub length-encoding : length (encoding f n xs) ≡ 10 + 12 * length xs

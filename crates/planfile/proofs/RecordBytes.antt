@@ -1,8 +1,8 @@
 -- Records and their bytes: the fields of a list's records are those whose bytes the list is.
-use Rattle.std.proofs.Common.{◌≡◌, ℕ, zero, suc, ◌+◌, ◌-◌, ◌*◌, ◌<◌, ◌≤◌, List, [], ◌∷◌, ◌++◌, map, length, get_or, take, drop, sym, refl, ap, ◌∙◌, ap₂, arith, take-add}
-use Rattle.std.proofs.lemmas.List.{drop-drop, get_or-drop, take-append-drop, length-drop, nil_from_length, take_rest}
+use Rattle.std.proofs.Common.{◌≡◌, ℕ, zero, suc, ◌+◌, ◌*◌, ◌<◌, ◌≤◌, List, [], ◌∷◌, ◌++◌, map, length, get_or, take, drop, sym, refl, ap, ◌∙◌, ap₂, arith, take-add}
+use Rattle.std.proofs.lemmas.List.{drop-drop, get_or-drop, take-append-drop, length-drop, nil_from_length}
 use Rattle.std.proofs.lemmas.List.FromFn.{length-map-range_with_len, get_or-map-range_with_len}
-use Rattle.std.specs.List.{range_with_len, flat_map, AllByRecursion as All}
+use Rattle.std.specs.List.{range_with_len, flat_map, AllByRecursion}
 use Rattle.planfile.specs.Records.{field_bytes, first_fields, records_of}
 use Rattle.planfile.specs.RoundTrip.{FieldsFit}
 use Rattle.planfile.specs.declared.fields.Fields.{Fields}
@@ -53,7 +53,7 @@ first_of_bytes x rest fit =
     (number_of_bytes 8 x.number bs rest 4 refl fit.number)
 
 -- the bytes of records have those records
-pub records_of_bytes : (xs : List Fields) → All FieldsFit xs → records_of (length xs) (flat_map field_bytes xs) ≡ xs
+pub records_of_bytes : (xs : List Fields) → AllByRecursion FieldsFit xs → records_of (length xs) (flat_map field_bytes xs) ≡ xs
 records_of_bytes [] fit = refl
 records_of_bytes (x ∷ xs) fit =
     records_rest (length xs) (field_bytes x ++ flat_map field_bytes xs)

@@ -2,7 +2,7 @@
 use Rattle.std.proofs.Common.{◌≡◌, ℕ, ◌+◌, ◌*◌, Bool, true, false, not, ◌&&◌, ◌||◌, eqb, ltb, leb, List, [], ◌∷◌, ◌++◌, length, get_or, Some, None, Option, refl, ap, ◌∙◌, ⊎_elim, arith}
 use Rattle.std.proofs.lemmas.Bool.{and_from, and_left, and_parts, and_right, both_ways, cases_eq, eq-eqb, eqb-false, eqb-true, leb-false, lt-leb, ltb-false, ne_eqb, not-false, or_from, or_parts}
 use Rattle.std.specs.Option.{option_map}
-use Rattle.std.specs.List.{AllByRecursion as All}
+use Rattle.std.specs.List.{AllByRecursion}
 use Rattle.filekind.specs.Format.{Format}
 use Rattle.filekind.specs.Outside.{outside}
 use Rattle.refusal.specs.First.{refused_if}
@@ -62,7 +62,7 @@ passes_from_none f places bs e₀ =
     )
 
 -- the test for a repeated pair, and what it says
-differs_from_none : (earlier : List Fields) (x : Fields) → repeats earlier x ≡ false → All (λ y. Differs y x) earlier
+differs_from_none : (earlier : List Fields) (x : Fields) → repeats earlier x ≡ false → AllByRecursion (λ y. Differs y x) earlier
 differs_from_none [] x e = tt
 differs_from_none (y ∷ ys) x e =
     let p = or_parts (eqb y.from x.from && eqb y.to x.to) (repeats ys x) e in (
@@ -70,7 +70,7 @@ differs_from_none (y ∷ ys) x e =
       differs_from_none ys x p.1,
     )
 
-none_from_differs : (earlier : List Fields) (x : Fields) → All (λ y. Differs y x) earlier → repeats earlier x ≡ false
+none_from_differs : (earlier : List Fields) (x : Fields) → AllByRecursion (λ y. Differs y x) earlier → repeats earlier x ≡ false
 none_from_differs [] x all = refl
 none_from_differs (y ∷ ys) x all =
     or_from (eqb y.from x.from && eqb y.to x.to) (repeats ys x)

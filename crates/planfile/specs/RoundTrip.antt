@@ -11,7 +11,7 @@
 --   PlanFits n xs             the numbers fit the places that the format has for them
 --   Unambiguous f             different plans have different encodings
 use Rattle.std.specs.Prelude.{◌≡◌, ℕ, ◌^◌, ◌<◌, ◌≤◌, Bool, true, List, map, length, None, Option}
-use Rattle.std.specs.List.{AllByRecursion as All}
+use Rattle.std.specs.List.{AllByRecursion}
 use Rattle.cost.specs.Kind.{Kind}
 use Rattle.cost.specs.declared.link.Link.{Link}
 use Rattle.filekind.specs.Format.{Format}
@@ -47,7 +47,7 @@ pub record FieldsFit (x : Fields) : Type 0 where
 pub record PlanFits (n : ℕ) (xs : List Fields) : Type 0 where
   pub stations : n < 2 ^ 16
   pub count : length xs < 2 ^ 16
-  pub fields : All FieldsFit xs
+  pub fields : AllByRecursion FieldsFit xs
 
 abbrev pub Unambiguous : Format → Type 0
 Unambiguous f = (n n' : ℕ) (xs xs' : List Fields) → PlanFits n xs → PlanFits n' xs' → encoding f n xs ≡ encoding f n' xs' → (n ≡ n') × (xs ≡ xs')

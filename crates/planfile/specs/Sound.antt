@@ -6,7 +6,7 @@
 --   Laid f n earlier xs       the records xs may follow the records earlier, one after the other
 --   Sound f n xs              a plan of n stations, 1 to 256, and of at most 4,096 records that may follow each other
 use Rattle.std.specs.Prelude.{◌≡◌, ℕ, ◌<◌, ◌≤◌, List, [], ◌∷◌, ◌++◌, length, ◌≢◌}
-use Rattle.std.specs.List.{AllByRecursion as All}
+use Rattle.std.specs.List.{AllByRecursion}
 use Rattle.filekind.specs.Format.{Format}
 use Rattle.planfile.specs.declared.fields.Fields.{Fields}
 
@@ -19,7 +19,7 @@ pub record LinkSound (f : Format) (n : ℕ) (earlier : List Fields) (x : Fields)
   pub from : x.from < n
   pub to : x.to < n
   pub apart : x.from ≡ x.to → ⊥
-  pub new : All (λ y. Differs y x) earlier
+  pub new : AllByRecursion (λ y. Differs y x) earlier
 
 abbrev pub Laid : Format → ℕ → List Fields → List Fields → Type 0
 Laid f n earlier [] = Unit {0}

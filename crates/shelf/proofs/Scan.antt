@@ -1,7 +1,7 @@
 -- Looking through the stations in order.
 --
 --   Best q n o     of the stations below n, none waits where o is none, and else o is one of the lowest rank
-use Rattle.std.proofs.Common.{◌≡◌, ℕ, ◌+◌, ◌<◌, ◌≤◌, Some, None, Option, ⊎_elim, arith, below_more, MatchOption}
+use Rattle.std.proofs.Common.{◌≡◌, ℕ, ◌+◌, ◌<◌, ◌≤◌, Some, None, Option, ⊎_elim, arith, below_more}
 use Rattle.std.specs.Option.{option_map}
 use Rattle.std.proofs.lemmas.Bool.{cases_lt, le-ltb, cond-false, cond_both, leb-true, leb-false}
 use Rattle.queue.specs.Meaning.{Nobody, Lowest}

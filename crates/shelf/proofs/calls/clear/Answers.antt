@@ -1,4 +1,3 @@
-use Rattle.std.proofs.Common.{sym}
 use Rattle.shelf.proofs.Unset.{unset_from_replicate}
 use Rattle.shelf.proofs.calls.clear.Goals as goal
 
