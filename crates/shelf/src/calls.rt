@@ -3,7 +3,7 @@ ghost use Rattle.std.specs.Prelude.{◌≡◌, ℕ, false, MatchOption, slice_in
 ghost use Rattle.queue.specs.Meaning.{Nobody, Lowest};
 ghost use Rattle.shelf.specs.Shelved.{shelf_meaning};
 ghost use Rattle.shelf.specs.Waiters.{lower_of};
-ghost use Rattle.std.proofs.Common.{rules, arith};
+ghost use Rattle.std.proofs.Common.{rules};
 
 use super::state::Shelf;
 use queue::Queue;
@@ -12,7 +12,7 @@ use refusal::Refusal;
 impl Queue for Shelf {
     ghost meaning = { shelf_meaning };
 
-    ghost sound = { first_of (Prim.search rules, Prim.grind (arith, Self.row.coded.inj)) };
+    ghost sound = { Prim.search rules };
 
     fn new() -> Shelf {
         Shelf {
