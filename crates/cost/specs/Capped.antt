@@ -1,4 +1,5 @@
--- Products of positive numbers, cut off at a cap F: what the laws of split come to.
+-- Products of positive numbers, cut off at a cap F: what the laws of split come to. Lemmas, of which the
+-- laws in SplitRanks are made.
 use Rattle.std.specs.Prelude.{◌≡◌, ℕ, ◌*◌, ◌<◌, ◌≤◌, min, ◌≢◌}
 use Rattle.std.proofs.Common.{sym, ap, ◌∙◌, ⊎_elim, mul_assoc, mul_comm, mul-one, mul-le-mul_left, mul-le-mul_right, arith}
 use Rattle.std.proofs.Math.Nat.{mul-lt-mul_of_pos_left}

@@ -5,5 +5,5 @@ pub mod Joins
 pub mod Sum
 pub mod Split
 pub mod Worked
-pub mod SplitRanks
 pub mod Capped
+pub mod SplitRanks

@@ -1,4 +1,5 @@
--- Ranks of split lie between 1 and FAR, and the rank of a join is the product cut off at FAR.
+-- Ranks of split lie between 1 and FAR, and the rank of a join is the product cut off at FAR:
+-- the proofs of split's laws. They define nothing; they stand in specs/ since an impl takes its laws from there alone.
 use Rattle.std.specs.Prelude.{◌≡◌, ℕ, ◌*◌, ◌<◌, ◌≤◌, min}
 use Rattle.std.proofs.Common.{◌∙◌, mul-pos, mul_comm, one-mul, mul-one, arith}
 use Rattle.std.proofs.lemmas.Bool.Decides.{nat_tests}

@@ -39,23 +39,23 @@ passes_from_none f places bs e₀ =
     let e₁₈ = not_refused (not (eqb (get_or bs 5 0) f.byte)) _ _ e₁₇.1 in
     let e₁₉ = not_refused (outside 1 256 (stations_of bs) || ltb places (count_of bs)) _ _ e₁₈.1 in
     let e₂₀ = not_refused (not (eqb (length bs) (10 + 12 * count_of bs))) _ _ e₁₉.1 in
-    let places-in = bounds 1 4096 places e₂.0 in
-    let mark-in = and_parts (eqb (get_or bs 0 0) 67) (eqb (get_or bs 1 0) 80 && eqb (get_or bs 2 0) 76) (not-false (marked bs) e₁₆.0) in
-    let mark-rest = and_parts (eqb (get_or bs 1 0) 80) (eqb (get_or bs 2 0) 76) mark-in.1 in
-    let counts-in = or_parts (outside 1 256 (stations_of bs)) (ltb places (count_of bs)) e₁₉.0 in
-    let stations-in = bounds 1 256 (stations_of bs) counts-in.0 in (
+    let places_in = bounds 1 4096 places e₂.0 in
+    let mark_in = and_parts (eqb (get_or bs 0 0) 67) (eqb (get_or bs 1 0) 80 && eqb (get_or bs 2 0) 76) (not-false (marked bs) e₁₆.0) in
+    let mark_rest = and_parts (eqb (get_or bs 1 0) 80) (eqb (get_or bs 2 0) 76) mark_in.1 in
+    let counts_in = or_parts (outside 1 256 (stations_of bs)) (ltb places (count_of bs)) e₁₉.0 in
+    let stations_in = bounds 1 256 (stations_of bs) counts_in.0 in (
       record {
-        some_places = places-in.0;
-        few_places = places-in.1;
+        some_places = places_in.0;
+        few_places = places_in.1;
         header = ltb-false (length bs) 10 e₁₅.0;
-        mark_0 = eqb-true (get_or bs 0 0) 67 mark-in.0;
-        mark_1 = eqb-true (get_or bs 1 0) 80 mark-rest.0;
-        mark_2 = eqb-true (get_or bs 2 0) 76 mark-rest.1;
+        mark_0 = eqb-true (get_or bs 0 0) 67 mark_in.0;
+        mark_1 = eqb-true (get_or bs 1 0) 80 mark_rest.0;
+        mark_2 = eqb-true (get_or bs 2 0) 76 mark_rest.1;
         version = equal (number_at 2 bs 3) 1 e₁₇.0;
         kind = equal (get_or bs 5 0) f.byte e₁₈.0;
-        some_stations = stations-in.0;
-        few_stations = stations-in.1;
-        enough_places = ltb-false places (count_of bs) counts-in.1;
+        some_stations = stations_in.0;
+        few_stations = stations_in.1;
+        enough_places = ltb-false places (count_of bs) counts_in.1;
         long = equal (length bs) (10 + 12 * count_of bs) e₂₀.0;
       },
       none_of_mapped faulty_record (first_fault f (stations_of bs) [] (file_records bs)) e₂₀.1,
@@ -86,13 +86,13 @@ sound_from_none f n k earlier x e₀ =
     let e₃ = not_refused (leb n x.from || leb n x.to) _ _ e₂₁.1 in
     let e₄ = not_refused (eqb x.from x.to) _ _ e₃.1 in
     let e₆ = not_refused (repeats earlier x) _ _ e₄.1 in
-    let cost-in = bounds f.low f.high x.number e₂₁.0 in
-    let stations-in = or_parts (leb n x.from) (leb n x.to) e₃.0 in
+    let cost_in = bounds f.low f.high x.number e₂₁.0 in
+    let stations_in = or_parts (leb n x.from) (leb n x.to) e₃.0 in
     record {
-      low = cost-in.0;
-      high = cost-in.1;
-      from = leb-false n x.from stations-in.0;
-      to = leb-false n x.to stations-in.1;
+      low = cost_in.0;
+      high = cost_in.1;
+      from = leb-false n x.from stations_in.0;
+      to = leb-false n x.to stations_in.1;
       apart = eqb-false x.from x.to e₄.0;
       new = differs_from_none earlier x e₆.0;
     }
