@@ -2,6 +2,7 @@ pub mod Kind
 pub mod Laws
 pub mod Forms
 pub mod Joins
+pub mod Text
 pub mod Sum
 pub mod Split
 pub mod Worked

@@ -47,9 +47,7 @@ pub trait Cost: Copy {
 pub fn total<K: Cost>(costs: &[K]) -> K
     ensures value { result ≡ joins K.kind costs.now }
 {
-    let mut whole = K::zero();
-    for cost in costs {
-        whole = whole.join(*cost);
-    }
-    whole
+    costs
+        .iter()
+        .fold(K::zero(), |whole, cost| whole.join(*cost))
 }

@@ -1,5 +1,4 @@
 // Split: outlets that share a reference, multiplied along a walk.
-ghost use Rattle.std.specs.Prelude.{◌≡◌, ◌-◌, ◌*◌, ◌^◌, min};
 ghost use Rattle.cost.specs.Split.{split_kind, split_formed};
 ghost use Rattle.cost.specs.SplitRanks.{split_laws, split_strict};
 ghost use Rattle.std.proofs.Common.{rules};
@@ -34,7 +33,7 @@ impl Cost for Split {
 
     fn join(self, other: Split) -> Split {
         Split {
-            outlets: capped_product(self.rank(), other.rank()),
+            outlets: self.rank().saturating_mul(other.rank()),
         }
     }
 
@@ -52,12 +51,4 @@ impl Cost for Split {
         }
         Ok(Split { outlets: number })
     }
-}
-
-// The product of two numbers, or the greatest number where the product is above it.
-fn capped_product(a: u64, b: u64) -> u64
-    ensures value { result ≡ min (a * b) (2 ^ 64 - 1) }
-{
-    let product = (a as u128) * (b as u128);
-    u64::try_from(product).unwrap_or(u64::MAX)
 }

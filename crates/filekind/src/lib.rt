@@ -4,7 +4,9 @@
 #![tactic(auto)]
 
 mod kind;
+mod named;
 mod range;
 
 pub use kind::FileKind;
+pub use named::{Kind, UnknownKind};
 pub use range::LinkRange;

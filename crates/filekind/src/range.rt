@@ -14,6 +14,6 @@ impl LinkRange {
     pub fn excludes(self, number: u64) -> bool
         ensures value { result ≡ outside self.low self.high number }
     {
-        number < self.low || number > self.high
+        !(self.low..=self.high).contains(&number)
     }
 }

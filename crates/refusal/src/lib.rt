@@ -3,10 +3,13 @@
 // Every crate above answers with these types.
 #![tactic(auto)]
 
-ghost use Rattle.std.specs.Prelude.{◌≡◌};
+ghost use Rattle.std.specs.Prelude.{◌≡◌, Some};
 ghost use Rattle.refusal.specs.Code.{bare as bare_code, code_of, fault_code};
+ghost use Rattle.refusal.specs.Text.{code_text, layer_name};
 ghost use Rattle.refusal.specs.declared.RecordFault.TheVariants.{Field as field_of_record};
 ghost use Rattle.refusal.specs.declared.Refusal.TheVariants.{Field as field_of_file, Record as record_of_file};
+
+use std::fmt;
 
 // The layer of a plan file that a fault belongs to.
 #[derive(Clone, Copy, PartialEq, Eq, Debug)]
@@ -91,12 +94,12 @@ impl From<FieldFault> for Refusal {
     }
 }
 
-impl RecordFault {
-    // The record, the number and the layer of the fault, as a refused file tells them.
-    pub fn facts(self) -> Facts
-        ensures value { result ≡ fault_code self }
-    {
-        match self {
+// The record, the number and the layer of the fault, as a refused file tells them.
+impl From<RecordFault> for Facts {
+    ghost from_gives = { λ f r. r ≡ fault_code f };
+
+    fn from(fault: RecordFault) -> Facts {
+        match fault {
             RecordFault::Field(FieldFault { index }) => Facts::Below {
                 index,
                 number: 21,
@@ -145,9 +148,39 @@ impl Refusal {
             },
             Refusal::Record(below) => Code {
                 number: 22,
-                facts: below.facts(),
+                facts: Facts::from(below),
             },
         }
+    }
+}
+
+// As it stands in a line: the number, then what it names of a record, divided by blanks.
+impl fmt::Display for Code {
+    ghost output = { λ c. Some (code_text c) };
+
+    fn fmt<W: fmt::Write>(&self, f: &mut fmt::Formatter<W>) -> fmt::Result {
+        let Code { number, facts } = *self;
+        match facts {
+            Facts::Bare => write!(f, "{number}"),
+            Facts::AtRecord(index) => write!(f, "{number} {index}"),
+            Facts::Below {
+                index,
+                number: inner,
+                layer: _,
+            } => write!(f, "{number} {index} {inner}"),
+        }
+    }
+}
+
+// The layer's name in plain words.
+impl fmt::Display for Layer {
+    ghost output = { λ l. Some (layer_name l) };
+
+    fn fmt<W: fmt::Write>(&self, f: &mut fmt::Formatter<W>) -> fmt::Result {
+        f.write_str(match self {
+            Layer::Field => "field",
+            Layer::Record => "record",
+        })
     }
 }
 
