@@ -8,3 +8,4 @@ pub mod Header
 pub mod Sound
 pub mod Writing
 pub mod RoundTrip
+pub mod Text
