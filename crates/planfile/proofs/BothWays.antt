@@ -1,15 +1,17 @@
 -- Reading and writing undo each other.
-use Rattle.std.proofs.Common.{◌≡◌, ℕ, ◌+◌, ◌<◌, ◌≤◌, true, List, [], ◌∷◌, ◌++◌, map, length, drop, is_some, is_ok, Some, None, Ok, Err, Option, Result, unwrap_or, sym, refl, ap, ◌∙◌, ap₂, arith, MatchOption}
+use Rattle.std.proofs.Common.{◌≡◌, ℕ, ◌+◌, ◌<◌, ◌≤◌, Bool, true, List, [], ◌∷◌, ◌++◌, map, length, drop, is_some, is_ok, Some, None, Ok, Err, Option, Result, unwrap_or, sym, refl, ap, ◌∙◌, ap₂, arith, MatchOption}
 use mathlib.Core.Path.{subst⁻¹}
 use Rattle.std.proofs.ByRecursion.{All-weaker}
 use Rattle.std.proofs.lemmas.List.{length-map}
 use Rattle.std.proofs.lemmas.Bool.{false≢true}
+use Rattle.std.proofs.lemmas.Iterator.Adapters.{position_from-zero}
 use Rattle.std.specs.Option.{option_map}
-use Rattle.std.specs.List.{AllByRecursion}
+use Rattle.std.specs.List.{AllByRecursion, position_from}
 use Rattle.cost.specs.Forms.{Forms}
 use Rattle.cost.specs.Kind.{Kind, FAR}
 use Rattle.cost.specs.declared.link.Link.{Link}
 use Rattle.filekind.specs.Format.{Format, Ranged}
+use Rattle.filekind.specs.Outside.{outside}
 use Rattle.filekind.specs.declared.range.LinkRange.{LinkRange}
 use Rattle.refusal.specs.First.{told}
 use Rattle.refusal.specs.declared.Refusal.{Refusal}
@@ -46,9 +48,15 @@ in_range f n earlier (x ∷ xs) laid = (record { low = laid.0.low; high = laid.0
 fits : (f : Format) (n : ℕ) → f.high < FAR → n ≤ 256 → (x : Fields) → InRange f n x → FieldsFit x
 fits f n far few x h = record { from = omega (arith, h.from); to = omega (arith, h.to); number = omega (arith, h.high) }
 
-none_outside : (f : Format) (n k : ℕ) (xs : List Fields) → AllByRecursion (InRange f n) xs → first_outside f k xs ≡ None
-none_outside f n k [] all = refl
-none_outside f n k (x ∷ xs) all = rw (inside f.low f.high x.number all.0.low all.0.high) (none_outside f n (k + 1) xs all.1)
+abbrev out : Format → Fields → Bool
+out f x = outside f.low f.high x.number
+
+none_out : (f : Format) (n k : ℕ) (xs : List Fields) → AllByRecursion (InRange f n) xs → position_from (out f) k xs ≡ None
+none_out f n k [] all = refl
+none_out f n k (x ∷ xs) all = rw (inside f.low f.high x.number all.0.low all.0.high) (none_out f n (k + 1) xs all.1)
+
+none_outside : (f : Format) (n : ℕ) (xs : List Fields) → AllByRecursion (InRange f n) xs → first_outside f xs ≡ None
+none_outside f n xs all = ap (option_map _) (position_from-zero (out f) xs ∙ none_out f n 0 xs all)
 
 -- the encoding of a sound plan is accepted, and read as that plan
 pub accepted : (f : Format) (n : ℕ) (xs : List Fields) (places : ℕ) → f.byte < 256 → f.high < FAR → Sound f n xs → 1 ≤ places → places ≤ 4096 → length xs ≤ places → reading_refusal f places (encoding f n xs) ≡ None
@@ -85,7 +93,7 @@ module _ {K : Type 0} (m : Kind K) (formed : ℕ → Option K) (numbered : Forms
       record {
         encoded = ap (encoding f n) again ∙ whole;
         sound = subst⁻¹ (Sound f n) again sound;
-        writable = λ room enough. sym (left_to_costs m f n (links_of m formed bs) room sound.some sound.few (omega (arith, count, sound.short)) (omega (arith, count, length-encoding f n xs, ap length whole))) ∙ ap (first_outside f 0) again ∙ none_outside f n 0 xs (in_range f n [] xs laid);
+        writable = λ room enough. sym (left_to_costs m f n (links_of m formed bs) room sound.some sound.few (omega (arith, count, sound.short)) (omega (arith, count, length-encoding f n xs, ap length whole))) ∙ ap (first_outside f) again ∙ none_outside f n xs (in_range f n [] xs laid);
       }
 
   -- the encoding of a sound plan reads back

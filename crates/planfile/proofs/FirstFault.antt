@@ -1,24 +1,13 @@
 -- The search for the first fault, one record on: the table of pairs stands for the records before.
-use Rattle.std.proofs.Common.{◌≡◌, ℕ, ◌+◌, ◌*◌, ◌<◌, ◌≤◌, Bool, true, false, List, [], ◌∷◌, ◌++◌, length, get_or, take, drop, set, Some, None, sym, ap, ◌∙◌, subst, ap₂, le_of_lt, arith}
+use Rattle.std.proofs.Common.{◌≡◌, ℕ, ◌+◌, ◌<◌, ◌≤◌, Bool, true, false, List, [], ◌∷◌, ◌++◌, length, get_or, take, drop, set, Some, None, sym, ap, ◌∙◌, subst, ap₂, le_of_lt}
 use Rattle.std.proofs.lemmas.List.{at_drop_more, take_more, length-take-le}
 use Rattle.filekind.specs.Format.{Format}
 use Rattle.refusal.specs.declared.Facts.{Facts}
 use Rattle.planfile.specs.Faults.{fault, first_fault, or_else, repeats}
-use Rattle.planfile.specs.Records.{first_fields, records_of}
 use Rattle.planfile.specs.declared.fields.Fields.{Fields}
-use Rattle.planfile.proofs.RecordBytes.{length-records_of, record_here}
 use Rattle.planfile.proofs.Seen.{Holds, place, holds_more, fault_seen, sound_low}
 
-module _ (f : Format) (n : ℕ) (few : n ≤ 256) (count : ℕ) (bs : List ℕ) (i : ℕ) (below : i < count) (seen : List Bool) (holds : Holds seen (take i (records_of count bs))) (x : Fields) (is : x ≡ first_fields (drop (12 * i) bs)) where
-  abbrev xs : List Fields
-  xs = records_of count bs
-
-  within : i < length xs
-  within = omega (arith, length-records_of count bs)
-
-  item : x ≡ get_or xs i x
-  item = record_here count bs i x below is
-
+module _ (f : Format) (n : ℕ) (few : n ≤ 256) (xs : List Fields) (i : ℕ) (within : i < length xs) (seen : List Bool) (holds : Holds seen (take i xs)) (x : Fields) (item : x ≡ get_or xs i x) where
   pushed : take (i + 1) xs ≡ take i xs ++ (x ∷ [])
   pushed = take_more xs i x within ∙ ap (λ y. take i xs ++ (y ∷ [])) (sym item)
 

@@ -2,7 +2,6 @@ pub mod BothWays
 pub mod Codec
 pub mod FileBytes
 pub mod FirstFault
-pub mod FirstOutside
 pub mod FrontLinks
 pub mod HeaderTests
 pub mod Ranges
@@ -10,5 +9,4 @@ pub mod RecordBytes
 pub mod Seen
 pub mod Soundness
 pub mod Stored
-pub mod Unseen
 pub mod WritingTests

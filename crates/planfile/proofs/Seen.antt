@@ -1,6 +1,7 @@
 -- The table of pairs tells of each pair whether it stood in an earlier record.
-use Rattle.std.proofs.Common.{◌≡◌, ℕ, ◌+◌, ◌*◌, ◌<◌, ◌≤◌, Bool, true, false, ◌&&◌, ◌||◌, eqb, leb, ◌≢◌, List, [], ◌∷◌, ◌++◌, length, get_or, set, None, sym, refl, ap, ◌∙◌, ⊎_elim, arith}
-use Rattle.std.proofs.lemmas.List.{get_or-set_same, get_or-set_other, length-set}
+use Rattle.std.proofs.Common.{◌≡◌, ℕ, ◌+◌, ◌*◌, ◌<◌, ◌≤◌, Bool, true, false, ◌&&◌, ◌||◌, eqb, leb, ◌≢◌, List, [], ◌∷◌, ◌++◌, length, get_or, set, replicate, None, sym, refl, ap, ◌∙◌, ⊎_elim, arith}
+use lib.ListN.{length-replicate}
+use Rattle.std.proofs.lemmas.List.{get_or-replicate, get_or-set_same, get_or-set_other, length-set}
 use Rattle.std.proofs.lemmas.Bool.{cases_eq, cases_lt, le-leb, or_left, or_right}
 use Rattle.std.proofs.lemmas.Bool.Decides.{nat_tests}
 use Rattle.filekind.specs.Format.{Format}
@@ -17,6 +18,13 @@ pub record Low (x : Fields) : Type 0 where
 pub record Holds (seen : List Bool) (earlier : List Fields) : Type 0 where
   pub long : length seen ≡ 65536
   pub tells_of : (x : Fields) → Low x → get_or seen (place x) false ≡ repeats earlier x
+
+-- a table of flags that are all down
+pub none_seen : (seen : List Bool) → seen ≡ replicate 65536 false → Holds seen []
+none_seen seen down = record {
+  long = ap length down ∙ length-replicate 65536 false;
+  tells_of = λ x low. ap (λ l. get_or l (place x) false) down ∙ get_or-replicate 65536 (place x) false false (omega (arith, low.from, low.to));
+}
 
 paired : Fields → Fields → Bool
 paired y x = eqb y.from x.from && eqb y.to x.to

@@ -2,27 +2,18 @@
 ghost use Rattle.std.specs.Prelude.{◌≡◌, IfOk, if◌then◌else◌, Some, None};
 ghost use Rattle.std.specs.Result.{result_err};
 ghost use Rattle.std.specs.Option.{unwrap_or};
-ghost use Rattle.filekind.specs.Format.{Ranged};
 ghost use Rattle.filekind.specs.Outside.{outside};
 
-use filekind::{FileKind, LinkRange};
+use filekind::FileKind;
 use refusal::FieldFault;
 
 // The cost that a number of the link range forms; a number outside it is a fault of the record.
-pub(crate) fn link_cost<K: FileKind>(
-    range: LinkRange,
-    index: u16,
-    number: u64,
-) -> Result<K, FieldFault>
-    requires { Ranged K.Cost.kind K.Cost.formed K.FileKind.format range }
+pub(crate) fn link_cost<K: FileKind>(index: u16, number: u64) -> Result<K, FieldFault>
     ensures refused { result_err result ≡ (if outside K.FileKind.format.low K.FileKind.format.high number then Some (record { index = index }) else None) }
     ensures value { IfOk result (λ c. c ≡ unwrap_or (K.Cost.formed number) K.Cost.kind.far) }
 {
-    if range.excludes(number) {
+    if K::RANGE.excludes(number) {
         return Err(FieldFault { index });
     }
-    match K::form(number) {
-        Ok(cost) => Ok(cost),
-        Err(_) => Err(FieldFault { index }),
-    }
+    K::form(number).map_err(|_| FieldFault { index })
 }

@@ -1,28 +1,41 @@
-// The pairs of stations that have been seen, as a table with a place for each.
-ghost use Rattle.std.specs.Prelude.{◌≡◌, ℕ, ◌+◌, ◌*◌, ◌<◌, true, false, not, length, slice_index_or, slice_set};
+// The stations of a plan, and the pairs of them that its records have had so far.
+ghost use Rattle.std.specs.Prelude.{◌≡◌, ◌+◌, ◌*◌, ◌<◌, ◌≤◌, true, false, not, replicate, nat_lt, slice_index_or, slice_set};
 
 const PAIRS: usize = 65536;
 
+// A flag for each pair of 256 stations, of which the plan has the first so many.
 #[derive(Clone, Copy)]
 pub(crate) struct Pairs {
+    stations: u16,
     seen: [bool; PAIRS],
+    ghost few: { stations ≤ 256 },
 }
 
 impl Pairs {
     // No pair yet.
-    pub(crate) fn new() -> Pairs
-        ensures long { length result.seen ≡ 65536 }
-        ensures none { (k : ℕ) → slice_index_or result.seen k false ≡ false }
+    pub(crate) fn new(stations: u16) -> Pairs
+        requires { stations ≤ 256 }
+        ensures stations { result.stations ≡ stations }
+        ensures none { result.seen ≡ replicate 65536 false }
     {
         Pairs {
+            stations,
             seen: [false; PAIRS],
         }
     }
 
-    // Adds a pair of stations below 256, and says whether it is new.
+    // Whether the plan has a station of this number.
+    pub(crate) fn has_station(&self, station: u16) -> bool
+        ensures value { result ≡ nat_lt station self.now.stations }
+    {
+        station < self.stations
+    }
+
+    // Adds a pair of the plan's stations, and says whether it is new.
     pub(crate) fn insert(&mut self, from: u16, to: u16) -> bool
-        requires { (from < 256) × (to < 256) }
+        requires { (from < self.old.stations) × (to < self.old.stations) }
         ensures value { result ≡ not (slice_index_or self.old.seen (from * 256 + to) false) }
+        ensures stations { self.new.stations ≡ self.old.stations }
         ensures after { self.new.seen ≡ slice_set self.old.seen (from * 256 + to) true }
     {
         let at = from as usize * 256 + to as usize;

@@ -1,7 +1,6 @@
 // The file layer, writing: a header, then a record for each link, into a buffer.
-ghost use Rattle.std.specs.Prelude.{◌≡◌, ◌+◌, ◌*◌, ◌≤◌, ◌++◌, map, length, take, drop, is_ok, IfOk, if◌then◌else◌};
-ghost use Rattle.std.specs.List.{flat_map};
-ghost use Rattle.filekind.specs.Format.{Ranged};
+ghost use Rattle.std.specs.Prelude.{◌≡◌, ◌+◌, ◌*◌, ◌≤◌, ◌<◌, ◌++◌, map, length, take, drop, is_ok, IfOk, IfSome, if◌then◌else◌};
+ghost use Rattle.std.specs.List.{flat_map, position};
 ghost use Rattle.filekind.specs.Outside.{outside};
 ghost use Rattle.refusal.specs.First.{field_told, told};
 ghost use Rattle.planfile.specs.Encoding.{file_of, header};
@@ -11,8 +10,9 @@ ghost use Rattle.planfile.specs.RoundTrip.{ReadsBack, Unambiguous};
 ghost use Rattle.planfile.specs.Sound.{Sound};
 ghost use Rattle.planfile.specs.Writing.{first_outside, writing_refusal};
 
+use super::fields::Fields;
 use cost::Link;
-use filekind::{FileKind, LinkRange};
+use filekind::FileKind;
 use refusal::{FieldFault, Refusal};
 
 // Writes the plan's file at the start of the buffer, and answers its length.
@@ -27,49 +27,42 @@ pub fn write<K: FileKind>(
     ensures reads_back { IfOk result (λ l. Sound K.FileKind.format stations (map (fields_of K.Cost.kind) links.now) → ReadsBack K.Cost.kind K.Cost.formed K.FileKind.format stations links.now (take l buffer.new)) }
     ensures unambiguous { Unambiguous K.FileKind.format }
 {
-    let range = K::link_range();
-    let len = measure(range, stations, links, buffer.len())?;
+    let len = measure(stations, links, buffer.len())?;
     paste(buffer, 0, &header_bytes::<K>(stations, links.len() as u16));
     write_records(links, buffer);
     Ok(len)
 }
 
-// The first link whose cost is outside the range is a fault of its record.
-fn check_costs<K: FileKind>(range: LinkRange, links: &[Link<K>]) -> Result<(), FieldFault>
-    requires ranged { Ranged K.Cost.kind K.Cost.formed K.FileKind.format range }
+// The first link whose cost is outside the link range is a fault of its record.
+fn check_costs<K: FileKind>(links: &[Link<K>]) -> Result<(), FieldFault>
     requires few { length links.now ≤ 4096 }
-    ensures refused { field_told result ≡ first_outside K.FileKind.format 0 (map (fields_of K.Cost.kind) links.now) }
+    ensures refused { field_told result ≡ first_outside K.FileKind.format (map (fields_of K.Cost.kind) links.now) }
 {
-    for (index, link) in links.iter().enumerate() {
-        if costs_outside(range, link) {
-            return Err(FieldFault {
-                index: index as u16,
-            });
-        }
+    match first_outside(links) {
+        Some(index) => Err(FieldFault {
+            index: index as u16,
+        }),
+        None => Ok(()),
     }
-    Ok(())
 }
 
-// Whether a link's cost is outside the range.
-fn costs_outside<K: FileKind>(range: LinkRange, link: &Link<K>) -> bool
-    requires { Ranged K.Cost.kind K.Cost.formed K.FileKind.format range }
-    ensures value { result ≡ outside K.FileKind.format.low K.FileKind.format.high (K.Cost.kind.rank link.now.cost) }
+// The place of the first link whose cost is outside the link range.
+fn first_outside<K: FileKind>(links: &[Link<K>]) -> Option<usize>
+    ensures first { result ≡ position (λ x. outside K.FileKind.format.low K.FileKind.format.high x.number) (map (fields_of K.Cost.kind) links.now) }
+    ensures bound { IfSome result (λ k. k < length links.now) }
 {
-    range.excludes(link.cost.rank())
+    links
+        .iter()
+        .map(|link| Fields::from(*link))
+        .position(|fields| K::RANGE.excludes(fields.number))
 }
 
 // The length of the plan's file, or the first refusal that fits a buffer of so many bytes.
-fn measure<K: FileKind>(
-    range: LinkRange,
-    stations: u16,
-    links: &[Link<K>],
-    room: usize,
-) -> Result<usize, Refusal>
-    requires { Ranged K.Cost.kind K.Cost.formed K.FileKind.format range }
+fn measure<K: FileKind>(stations: u16, links: &[Link<K>], room: usize) -> Result<usize, Refusal>
     ensures refused { told result ≡ writing_refusal K.Cost.kind K.FileKind.format stations links.now room }
     ensures value { IfOk result (λ l. (l ≡ 10 + 12 * length links.now) × (l ≤ room) × (length links.now ≤ 4096)) }
 {
-    if stations < 1 || stations > 256 {
+    if !(1..=256).contains(&stations) {
         return Err(Refusal::StationCount);
     }
     if links.len() > 4096 {
@@ -79,7 +72,7 @@ fn measure<K: FileKind>(
     if room < len {
         return Err(Refusal::ShortBuffer);
     }
-    check_costs(range, links)?;
+    check_costs(links)?;
     Ok(len)
 }
 
@@ -87,20 +80,10 @@ fn measure<K: FileKind>(
 fn header_bytes<K: FileKind>(stations: u16, links: u16) -> [u8; 10]
     ensures value { result ≡ header K.FileKind.format stations links }
 {
-    let kind = K::kind_byte();
+    let kind = K::BYTE;
     let [n1, n0] = stations.to_be_bytes();
     let [k1, k0] = links.to_be_bytes();
     [b'C', b'P', b'L', 0, 1, kind, n1, n0, k1, k0]
-}
-
-// The twelve bytes of a link's record.
-fn record_bytes<K: FileKind>(link: &Link<K>) -> [u8; 12]
-    ensures value { result ≡ field_bytes (fields_of K.Cost.kind link.now) }
-{
-    let [f1, f0] = link.from.to_be_bytes();
-    let [t1, t0] = link.to.to_be_bytes();
-    let [c7, c6, c5, c4, c3, c2, c1, c0] = link.cost.rank().to_be_bytes();
-    [f1, f0, t1, t0, c7, c6, c5, c4, c3, c2, c1, c0]
 }
 
 // Copies a part into the buffer at a place.
@@ -119,6 +102,7 @@ fn write_records<K: FileKind>(links: &[Link<K>], buffer: &mut [u8])
     ensures after { buffer.new ≡ (take 10 buffer.old ++ flat_map field_bytes (map (fields_of K.Cost.kind) links.now)) ++ drop (10 + 12 * length links.now) buffer.old }
 {
     for (index, link) in links.iter().enumerate() {
-        paste(buffer, 10 + 12 * index, &record_bytes(link));
+        let record: [u8; 12] = Fields::from(*link).into();
+        paste(buffer, 10 + 12 * index, &record);
     }
 }

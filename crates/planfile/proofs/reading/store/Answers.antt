@@ -1,33 +1,30 @@
 -- One more link written is one more record's, and one less old place.
-use Rattle.std.proofs.Common.{◌≡◌, ◌+◌, ◌<◌, [], ◌∷◌, ◌++◌, map, length, take, drop, set, sym, ap, ◌∙◌, ap₂, arith}
-use Rattle.std.proofs.lemmas.List.{length-map, length-take-le, map_push, take_all, take_more}
-use Rattle.planfile.specs.Records.{link_of, records_of}
-use Rattle.planfile.proofs.RecordBytes.{length-records_of, record_here}
+use Rattle.std.proofs.Common.{◌≡◌, ◌+◌, ◌<◌, ◌≤◌, [], ◌++◌, map, length, take, drop, set, get_or, sym, ap, ◌∙◌, ap₂, arith}
+use Rattle.std.proofs.lemmas.List.{append-nil, drop_all, length-map, length-take-le, map_more, map_push, take_all}
+use Rattle.planfile.specs.Records.{first_fields, link_of}
 use Rattle.planfile.proofs.Stored.{stored_more}
 use Rattle.planfile.proofs.reading.store.Goals as goal
 
 pub loop-index-preserved : goal.loop-index-preserved
 loop-index-preserved g c =
-    let bs = c.args.records.now in
-    let old = c.args.list.now in
+    let rs = c.args.records.now in
+    let front = take (length rs) c.args.list.now in
     let i = c.loop-index.index in
-    let xs = records_of c.args.links bs in
-    let x = c.nth-fields.result in
     let link = link_of g.K.Cost.kind g.K.Cost.formed in
-    let inside : i < length xs = omega (arith, length-records_of c.args.links bs) in
-    let item = record_here c.args.links bs i x c.loop-index-test.true c.nth-fields.ensures.value in
-    let written = length-map (take i xs) link ∙ length-take-le i xs (omega arith) in
-    let more : take (i + 1) xs ≡ take i xs ++ (x ∷ []) = take_more xs i x inside ∙ ap (λ y. take i xs ++ (y ∷ [])) (sym item) in
-    c.put.ensures.after
-    ∙ ap₂ (λ l y. set l i y) c.loop-index.invariant c.link.ensures.value
-    ∙ stored_more (map link (take i xs)) old i (link x) written (omega arith)
-    ∙ ap (λ l. l ++ drop (i + 1) old) (sym (ap (map link) more ∙ map_push link (take i xs) x))
+    let x = first_fields (get_or rs i []) in
+    let fits : length front ≡ length rs = length-take-le (length rs) c.args.list.now c.requires.room in
+    let within : i < length rs = omega (arith, c.loop-index-test.true, fits) in
+    let written = length-map (map first_fields (take i rs)) link ∙ length-map (take i rs) first_fields ∙ length-take-le i rs (omega arith) in
+    ap₂ (λ l y. set l i y) c.loop-index.invariant (c.from-in-loop-index.ensures ∙ ap link c.from.ensures)
+    ∙ stored_more (map link (map first_fields (take i rs))) front i (link x) written (omega arith)
+    ∙ ap (λ l. l ++ drop (i + 1) front) (sym (ap (map link) (map_more first_fields rs i [] within) ∙ map_push link (map first_fields (take i rs)) x))
 
 pub returns : goal.returns
 returns g c =
-    let bs = c.args.records.now in
+    let rs = c.args.records.now in
+    let front = take (length rs) c.args.list.now in
     let i = c.loop-index.index in
-    let xs = records_of c.args.links bs in
     let link = link_of g.K.Cost.kind g.K.Cost.formed in
-    let end : i ≡ c.args.links = omega arith in
-    record { after = c.loop-index.invariant ∙ ap₂ (λ l k. map link l ++ drop k c.args.list.now) (take_all i xs (omega (arith, length-records_of c.args.links bs))) end }
+    let all : length rs ≤ i = omega (arith, c.loop-index-test.false, length-take-le (length rs) c.args.list.now c.requires.room) in
+    let whole = ap₂ (λ a b. map link (map first_fields a) ++ b) (take_all i rs all) (drop_all i front c.loop-index-test.false) ∙ append-nil (map link (map first_fields rs)) in
+    record { after = ap (λ l. l ++ drop (length rs) c.args.list.now) (c.loop-index.invariant ∙ whole) }

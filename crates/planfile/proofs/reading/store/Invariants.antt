@@ -1,7 +1,7 @@
 -- The places before `index` hold the links of the records, and the others what they held.
 use Rattle.std.proofs.Common.{◌≡◌, ◌++◌, map, take, drop}
-use Rattle.planfile.specs.Records.{link_of, records_of}
+use Rattle.planfile.specs.Records.{first_fields, link_of}
 use Rattle.planfile.proofs.reading.store.Given as goal
 
 abbrev pub invariant-loop-index : goal.invariant-loop-index
-invariant-loop-index g l = l.list ≡ map (link_of g.K.Cost.kind g.K.Cost.formed) (take l.index (records_of l.links l.records)) ++ drop l.index l.initial.list
+invariant-loop-index g l = l.place-items ≡ map (link_of g.K.Cost.kind g.K.Cost.formed) (map first_fields (take l.index l.records)) ++ drop l.index l.initial.place-items

@@ -45,6 +45,6 @@ returns g c =
       refused = told.refused;
       value = len;
       after = whole;
-      reads_back = λ sound. subst⁻¹ (ReadsBack m g.K.Cost.formed f n links) taken (reads_back m g.K.Cost.formed g.met.K.Cost.numbered f c.link_range-range.result c.link_range-range.ensures.value n links sound);
+      reads_back = λ sound. subst⁻¹ (ReadsBack m g.K.Cost.formed f n links) taken (reads_back m g.K.Cost.formed g.met.K.Cost.numbered f g.K.FileKind.RANGE g.met.K.FileKind.ranged n links sound);
       unambiguous = unambiguous f;
     }

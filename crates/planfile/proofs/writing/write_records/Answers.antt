@@ -27,12 +27,13 @@ loop-index-preserved g c =
     let old = c.args.buffer.now in
     let i = c.loop-index.index in
     let x = c.index-links-index.result in
-    let part = c.record_bytes.result in
+    let part = c.into-record.result in
+    let spelled : part ≡ field_bytes (fields_of m x) = c.into-record.ensures ∙ ap field_bytes c.from.ensures in
     let at = 10 + 12 * i in
     let new = take 10 old ++ flat_map field_bytes (map (fields_of m) (take i links)) in
-    let twelve : length part ≡ 12 = ap length c.record_bytes.ensures.value in
+    let twelve : length part ≡ 12 = ap length spelled in
     let more = ap (λ l. take 10 old ++ flat_map field_bytes l) (map_more (fields_of m) links i x c.loop-index-test.true ∙ ap (λ y. map (fields_of m) (take i links) ++ (fields_of m y ∷ [])) (sym c.index-links-index.is)) in
-    let pushed = ap (λ p. new ++ p) c.record_bytes.ensures.value ∙ flat_map_more field_bytes (take 10 old) (map (fields_of m) (take i links)) (fields_of m x) ∙ sym more in
+    let pushed = ap (λ p. new ++ p) spelled ∙ flat_map_more field_bytes (take 10 old) (map (fields_of m) (take i links)) (fields_of m x) ∙ sym more in
     c.paste.ensures.after
     ∙ ap (λ b. take at b ++ fronted part (drop at b)) c.loop-index.invariant
     ∙ pasted_more new old part at (written m links old i (omega arith) (omega arith))
