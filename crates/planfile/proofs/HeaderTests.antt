@@ -1,15 +1,13 @@
 -- A header that passes every test leaves the verdict to the records.
-use Rattle.std.proofs.Common.{◌≡◌, ℕ, ◌+◌, ◌*◌, ◌≤◌, Bool, false, not, ◌||◌, eqb, ltb, List, [], length, get_or, Option, sym, refl, ap, ◌∙◌, ap₂, arith}
+use Rattle.std.proofs.Common.{◌≡◌, ℕ, ◌+◌, ◌*◌, ◌≤◌, Bool, false, not, ◌||◌, eqb, ltb, List, [], length, get_or, refl, arith}
 use Rattle.std.proofs.lemmas.Bool.Decides.{nat_tests}
 use Rattle.std.specs.Option.{option_map}
 use Rattle.filekind.specs.Format.{Format}
 use Rattle.filekind.specs.Outside.{outside}
-use Rattle.refusal.specs.declared.Facts.{Facts}
 use Rattle.planfile.specs.Bytes.{number_at}
 use Rattle.planfile.specs.Faults.{first_fault}
 use Rattle.planfile.specs.Header.{Passes}
 use Rattle.planfile.specs.Reading.{reading_refusal, faulty_record, file_records, stations_of, count_of, marked}
-use Rattle.planfile.specs.declared.fields.Fields.{Fields}
 use Rattle.planfile.proofs.Ranges.{inside}
 
 equal : (a b : ℕ) → a ≡ b → not (eqb a b) ≡ false
@@ -36,8 +34,3 @@ left_to_records f places bs h =
       equal (length bs) (10 + 12 * count_of bs) h.long,
     )
     refl
-
--- what the records say, the stations and the records being those of the file, is what the file meets
-pub verdict : (f : Format) (places : ℕ) (bs : List ℕ) → Passes f places bs → (n : ℕ) (xs : List Fields) → n ≡ stations_of bs → xs ≡ file_records bs → (o : Option Facts) → o ≡ first_fault f n [] xs → option_map faulty_record o ≡ reading_refusal f places bs
-verdict f places bs h n xs stations records o said =
-    ap (option_map faulty_record) (said ∙ ap₂ (λ m ys. first_fault f m [] ys) stations records) ∙ sym (left_to_records f places bs h)

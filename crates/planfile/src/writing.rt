@@ -97,8 +97,7 @@ fn paste(buffer: &mut [u8], at: usize, part: &[u8])
 
 // Writes the records after the header's ten bytes.
 fn write_records<K: FileKind>(links: &[Link<K>], buffer: &mut [u8])
-    requires few { length links.now ≤ 4096 }
-    requires room { 10 + 12 * length links.now ≤ length buffer.old }
+    requires { 10 + 12 * length links.now ≤ length buffer.old }
     ensures after { buffer.new ≡ (take 10 buffer.old ++ flat_map field_bytes (map (fields_of K.Cost.kind) links.now)) ++ drop (10 + 12 * length links.now) buffer.old }
 {
     for (index, link) in links.iter().enumerate() {

@@ -1,6 +1,6 @@
 -- One more record pasted is one more of the encoding.
 use Rattle.std.proofs.Common.{◌≡◌, ℕ, ◌+◌, ◌*◌, ◌≤◌, List, [], ◌∷◌, ◌++◌, map, length, take, drop, sym, ap, ◌∙◌, ap₂, arith}
-use Rattle.std.proofs.lemmas.List.{append-nil, flat_map_more, length-append, length-map, length-take-le, map_more, take_all, take-append-drop}
+use Rattle.std.proofs.lemmas.List.{flat_map_more, length-append, length-map, length-take-le, map_more}
 use Rattle.std.specs.List.{flat_map}
 use Rattle.cost.specs.Kind.{Kind}
 use Rattle.cost.specs.declared.link.Link.{Link}
@@ -16,9 +16,6 @@ written m links old i within room =
     length-append (take 10 old) (flat_map field_bytes (map (fields_of m) (take i links)))
     ∙ ap₂ (λ a b. a + b) (length-take-le 10 old room)
     (length-records (map (fields_of m) (take i links)) ∙ ap (λ n. 12 * n) (length-map (take i links) (fields_of m) ∙ length-take-le i links within))
-
-pub loop-index-init : goal.loop-index-init
-loop-index-init g c = let old = c.args.buffer.now in sym (ap (λ l. l ++ drop 10 old) (append-nil (take 10 old)) ∙ take-append-drop 10 old)
 
 pub loop-index-preserved : goal.loop-index-preserved
 loop-index-preserved g c =
@@ -38,12 +35,3 @@ loop-index-preserved g c =
     ∙ ap (λ b. take at b ++ fronted part (drop at b)) c.loop-index.invariant
     ∙ pasted_more new old part at (written m links old i (omega arith) (omega arith))
     ∙ ap₂ (λ p k. p ++ drop k old) pushed (omega (arith, twelve))
-
-pub returns : goal.returns
-returns g c =
-    let m = g.K.Cost.kind in
-    let links = c.args.links.now in
-    let old = c.args.buffer.now in
-    let i = c.loop-index.index in
-    let end : i ≡ length links = omega arith in
-    record { after = c.loop-index.invariant ∙ ap₂ (λ l k. (take 10 old ++ flat_map field_bytes (map (fields_of m) l)) ++ drop (10 + 12 * k) old) (take_all i links c.loop-index-test.false) end }
