@@ -2,18 +2,45 @@
 ghost use Rattle.std.specs.Prelude.{◌≡◌, IfOk, if◌then◌else◌, Some, None};
 ghost use Rattle.std.specs.Result.{result_err};
 ghost use Rattle.std.specs.Option.{unwrap_or};
+ghost use Rattle.filekind.specs.Format.{Ranged};
 ghost use Rattle.filekind.specs.Outside.{outside};
 
-use filekind::FileKind;
+use filekind::{FileKind, LinkRange};
 use refusal::FieldFault;
+use std::marker::PhantomData;
 
-// The cost that a number of the link range forms; a number outside it is a fault of the record.
-pub(crate) fn link_cost<K: FileKind>(index: u16, number: u64) -> Result<K, FieldFault>
-    ensures refused { result_err result ≡ (if outside K.FileKind.format.low K.FileKind.format.high number then Some (record { index = index }) else None) }
-    ensures value { IfOk result (λ c. c ≡ unwrap_or (K.Cost.formed number) K.Cost.kind.far) }
-{
-    if K::RANGE.excludes(number) {
-        return Err(FieldFault { index });
+// The field of a link's cost in a file of kind K: the link range, with what the kind promises of it.
+#[derive(Drop)]
+pub(crate) struct CostField<K: FileKind> {
+    range: LinkRange,
+    kind: PhantomData<K>,
+    ghost ranged: { Ranged K.Cost.kind K.Cost.formed K.FileKind.format range },
+}
+
+impl<K: FileKind> CostField<K> {
+    // The field as the kind has it.
+    pub(crate) fn new() -> CostField<K> {
+        CostField {
+            range: K::link_range(),
+            kind: PhantomData,
+        }
     }
-    K::form(number).map_err(|_| FieldFault { index })
+
+    // Whether a number is outside the link range.
+    pub(crate) fn excludes(&self, number: u64) -> bool
+        ensures value { result ≡ outside K.FileKind.format.low K.FileKind.format.high number }
+    {
+        self.range.excludes(number)
+    }
+
+    // The cost that a number of the link range forms; a number outside it is a fault of the record.
+    pub(crate) fn cost(&self, index: u16, number: u64) -> Result<K, FieldFault>
+        ensures refused { result_err result ≡ (if outside K.FileKind.format.low K.FileKind.format.high number then Some (record { index = index }) else None) }
+        ensures value { IfOk result (λ c. c ≡ unwrap_or (K.Cost.formed number) K.Cost.kind.far) }
+    {
+        if self.excludes(number) {
+            return Err(FieldFault { index });
+        }
+        K::form(number).map_err(|_| FieldFault { index })
+    }
 }

@@ -33,7 +33,7 @@ pub(crate) fn read_header<'a, K: FileKind>(
     if u16::from_be_bytes([*v1, *v0]) != 1 {
         return Err(Refusal::Version);
     }
-    if *kind != K::BYTE {
+    if *kind != K::kind_byte() {
         return Err(Refusal::Kind);
     }
     let stations = u16::from_be_bytes([*n1, *n0]);

@@ -10,6 +10,7 @@ ghost use Rattle.planfile.specs.Records.{first_fields, link_of};
 ghost use Rattle.planfile.specs.RoundTrip.{Accepts, Holds};
 
 use super::counts::Counts;
+use super::field::CostField;
 use super::fields::Fields;
 use super::header::read_header;
 use super::pairs::Pairs;
@@ -26,13 +27,15 @@ pub fn read<K: FileKind>(bytes: &[u8], list: &mut [Link<K>]) -> Result<Counts, R
     ensures holds { IfOk result (λ c. Holds K.Cost.kind K.FileKind.format c.stations (take c.links list.new) bytes.now) }
     ensures accepts { Accepts K.FileKind.format (length list.old) bytes.now (is_ok result) }
 {
-    let (counts, records) = inspect::<K>(bytes, list.len())?;
+    let field = CostField::<K>::new();
+    let (counts, records) = inspect(&field, bytes, list.len())?;
     store(records, list);
     Ok(counts)
 }
 
 // The counts and the records of a file that a list of so many places can take, or the first refusal that fits.
 fn inspect<'a, K: FileKind>(
+    field: &CostField<K>,
     bytes: &'a [u8],
     places: usize,
 ) -> Result<(Counts, &'a [[u8; 12]]), Refusal>
@@ -43,19 +46,23 @@ fn inspect<'a, K: FileKind>(
     ensures encoded { IfOk result (λ x. encoding K.FileKind.format x.0.stations (file_records bytes.now) ≡ bytes.now) }
 {
     let (counts, records) = read_header::<K>(bytes, places)?;
-    check_records::<K>(counts.stations, records)?;
+    check_records(field, counts.stations, records)?;
     Ok((counts, records))
 }
 
 // Passes the records of a plan of so many stations, or answers the first fault.
-fn check_records<K: FileKind>(stations: u16, records: &[[u8; 12]]) -> Result<(), RecordFault>
+fn check_records<K: FileKind>(
+    field: &CostField<K>,
+    stations: u16,
+    records: &[[u8; 12]],
+) -> Result<(), RecordFault>
     requires few { stations ≤ 256 }
     requires short { length records.now ≤ 4096 }
     ensures refused { fault_told result ≡ first_fault K.FileKind.format stations [] (map first_fields records.now) }
 {
     let mut seen = Pairs::new(stations);
     for (index, record) in records.iter().enumerate() {
-        read_link::<K>(index as u16, Fields::from(*record), &mut seen)?;
+        read_link(field, index as u16, Fields::from(*record), &mut seen)?;
     }
     Ok(())
 }

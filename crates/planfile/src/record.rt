@@ -4,7 +4,7 @@ ghost use Rattle.refusal.specs.First.{fault_told};
 ghost use Rattle.planfile.specs.Faults.{fault};
 ghost use Rattle.planfile.specs.Records.{link_of};
 
-use super::field::link_cost;
+use super::field::CostField;
 use super::fields::Fields;
 use super::pairs::Pairs;
 use cost::Link;
@@ -13,6 +13,7 @@ use refusal::RecordFault;
 
 // The link of record `index`, after the pairs already seen.
 pub(crate) fn read_link<K: FileKind>(
+    field: &CostField<K>,
     index: u16,
     fields: Fields,
     seen: &mut Pairs,
@@ -23,7 +24,7 @@ pub(crate) fn read_link<K: FileKind>(
     ensures after { OnOk result (seen.new.seen ≡ slice_set seen.old.seen (fields.from * 256 + fields.to) true) }
 {
     let Fields { from, to, number } = fields;
-    let cost = link_cost::<K>(index, number)?;
+    let cost = field.cost(index, number)?;
     if !seen.has_station(from) || !seen.has_station(to) {
         return Err(RecordFault::NoStation { index });
     }

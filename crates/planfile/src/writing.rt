@@ -10,6 +10,7 @@ ghost use Rattle.planfile.specs.RoundTrip.{ReadsBack, Unambiguous};
 ghost use Rattle.planfile.specs.Sound.{Sound};
 ghost use Rattle.planfile.specs.Writing.{first_outside, writing_refusal};
 
+use super::field::CostField;
 use super::fields::Fields;
 use cost::Link;
 use filekind::FileKind;
@@ -27,18 +28,19 @@ pub fn write<K: FileKind>(
     ensures reads_back { IfOk result (λ l. Sound K.FileKind.format stations (map (fields_of K.Cost.kind) links.now) → ReadsBack K.Cost.kind K.Cost.formed K.FileKind.format stations links.now (take l buffer.new)) }
     ensures unambiguous { Unambiguous K.FileKind.format }
 {
-    let len = measure(stations, links, buffer.len())?;
+    let field = CostField::<K>::new();
+    let len = measure(&field, stations, links, buffer.len())?;
     paste(buffer, 0, &header_bytes::<K>(stations, links.len() as u16));
     write_records(links, buffer);
     Ok(len)
 }
 
 // The first link whose cost is outside the link range is a fault of its record.
-fn check_costs<K: FileKind>(links: &[Link<K>]) -> Result<(), FieldFault>
+fn check_costs<K: FileKind>(field: &CostField<K>, links: &[Link<K>]) -> Result<(), FieldFault>
     requires few { length links.now ≤ 4096 }
     ensures refused { field_told result ≡ first_outside K.FileKind.format (map (fields_of K.Cost.kind) links.now) }
 {
-    match first_outside(links) {
+    match first_outside(field, links) {
         Some(index) => Err(FieldFault {
             index: index as u16,
         }),
@@ -47,18 +49,23 @@ fn check_costs<K: FileKind>(links: &[Link<K>]) -> Result<(), FieldFault>
 }
 
 // The place of the first link whose cost is outside the link range.
-fn first_outside<K: FileKind>(links: &[Link<K>]) -> Option<usize>
+fn first_outside<K: FileKind>(field: &CostField<K>, links: &[Link<K>]) -> Option<usize>
     ensures first { result ≡ position (λ x. outside K.FileKind.format.low K.FileKind.format.high x.number) (map (fields_of K.Cost.kind) links.now) }
     ensures bound { IfSome result (λ k. k < length links.now) }
 {
     links
         .iter()
         .map(|link| Fields::from(*link))
-        .position(|fields| K::RANGE.excludes(fields.number))
+        .position(|fields| field.excludes(fields.number))
 }
 
 // The length of the plan's file, or the first refusal that fits a buffer of so many bytes.
-fn measure<K: FileKind>(stations: u16, links: &[Link<K>], room: usize) -> Result<usize, Refusal>
+fn measure<K: FileKind>(
+    field: &CostField<K>,
+    stations: u16,
+    links: &[Link<K>],
+    room: usize,
+) -> Result<usize, Refusal>
     ensures refused { told result ≡ writing_refusal K.Cost.kind K.FileKind.format stations links.now room }
     ensures value { IfOk result (λ l. (l ≡ 10 + 12 * length links.now) × (l ≤ room) × (length links.now ≤ 4096)) }
 {
@@ -72,7 +79,7 @@ fn measure<K: FileKind>(stations: u16, links: &[Link<K>], room: usize) -> Result
     if room < len {
         return Err(Refusal::ShortBuffer);
     }
-    check_costs(links)?;
+    check_costs(field, links)?;
     Ok(len)
 }
 
@@ -80,7 +87,7 @@ fn measure<K: FileKind>(stations: u16, links: &[Link<K>], room: usize) -> Result
 fn header_bytes<K: FileKind>(stations: u16, links: u16) -> [u8; 10]
     ensures value { result ≡ header K.FileKind.format stations links }
 {
-    let kind = K::BYTE;
+    let kind = K::kind_byte();
     let [n1, n0] = stations.to_be_bytes();
     let [k1, k0] = links.to_be_bytes();
     [b'C', b'P', b'L', 0, 1, kind, n1, n0, k1, k0]

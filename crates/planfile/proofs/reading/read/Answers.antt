@@ -16,7 +16,7 @@ returns-in_err-counts-clause-accepts g c =
     let f = g.K.FileKind.format in
     let bs = c.args.bytes.now in
     let places = length c.args.list.now in
-    let ranged = g.met.K.FileKind.ranged in
+    let ranged = c.new-field.result.ranged in
     let p = err_from_is_err_and c.from_residual.result c.from_residual.ensures.1 in
     let said : told c.from_residual.result ≡ reading_refusal f places bs = rw (p.1, p.2) c.in_err-counts.ensures.refused in
     λ n xs sound some few enough e. ok_from_told c.from_residual.result (said ∙ ap (reading_refusal f places) (sym e) ∙ accepted f n xs places ranged.byte_fits ranged.far_out sound some few enough)
@@ -36,5 +36,5 @@ returns-clause-holds g c =
     ap₂ take (sym told.fits.0) c.store.ensures.after
     ∙ take_at (map (link_of m formed) xs) (drop (length records) list) (length records) (length-map xs (link_of m formed) ∙ length-map records first_fields)
     ∙ ap (map (link_of m formed)) told.records in
-    let whole = file_holds m formed g.met.K.Cost.numbered f g.K.FileKind.RANGE g.met.K.FileKind.ranged (length list) bs (sym told.refused) (ap (λ k. encoding f k (file_records bs)) (sym stations) ∙ told.encoded) in
+    let whole = file_holds m formed g.met.K.Cost.numbered f c.new-field.result.range c.new-field.result.ranged (length list) bs (sym told.refused) (ap (λ k. encoding f k (file_records bs)) (sym stations) ∙ told.encoded) in
     subst⁻¹ (λ k. Holds m f k (take c.in_ok-counts.counts.links c.store.new.list) bs) stations (subst⁻¹ (λ l. Holds m f (stations_of bs) l bs) read whole)

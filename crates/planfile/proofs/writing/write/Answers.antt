@@ -42,4 +42,4 @@ returns-clause-reads_back g c =
     let file = file_of m f n links in
     let long = length-encoding f n (map (fields_of m) links) ∙ ap (λ k. 10 + 12 * k) (length-map links (fields_of m)) in
     let taken : take c.in_ok-len.len c.write_records.new.buffer ≡ file = ap₂ take (c.in_ok-len.ensures.value.0 ∙ sym long) (returns-clause-after g c) ∙ take_at file (drop (length file) c.args.buffer.now) (length file) refl in
-    λ sound. subst⁻¹ (ReadsBack m g.K.Cost.formed f n links) taken (reads_back m g.K.Cost.formed g.met.K.Cost.numbered f g.K.FileKind.RANGE g.met.K.FileKind.ranged n links sound)
+    λ sound. subst⁻¹ (ReadsBack m g.K.Cost.formed f n links) taken (reads_back m g.K.Cost.formed g.met.K.Cost.numbered f c.new-field.result.range c.new-field.result.ranged n links sound)
