@@ -1,59 +1,86 @@
--- Looking through the stations in order.
+-- The stations that wait, with their ranks, as `lowest` looks through them.
 --
---   Best q n o     of the stations below n, none waits where o is none, and else o is one of the lowest rank
-use Rattle.std.proofs.Common.{◌≡◌, ℕ, ◌+◌, ◌<◌, ◌≤◌, Some, None, Option, ⊎_elim, arith, below_more}
+--   waiter_at p          the waiter of a station and what stands at its place
+--   waiters a n xs       the waiters of the n stations from a on, whose ranks xs has in order
+--   lower v w            the waiter of the lower rank, or of the lower station at one rank
+--   Is q w               w is a station that waits on the shelf q, with its rank
+use Rattle.std.proofs.Common.{◌≡◌, ℕ, zero, suc, ◌+◌, ◌<◌, ◌≤◌, List, [], ◌∷◌, Some, None, Option, MatchOption, slice_index_or, arith, refl, subst, add-zero, zero-add}
 use Rattle.std.specs.Option.{option_map}
-use Rattle.std.proofs.lemmas.Bool.{cases_lt, le-ltb, cond-false, cond_both, leb-true, leb-false}
+use Rattle.std.specs.Ordering.{nat_cmp, ordering_then, min_by_ordering}
+use Rattle.std.specs.List.{filter_map, zip, range_with_len, fold, reduce, All}
+use Rattle.std.proofs.lemmas.Bool.Decides.{nat_tests}
+use Rattle.std.proofs.lemmas.List.Elements.{All-head, All-tail, All-cons, All-nil}
 use Rattle.queue.specs.Meaning.{Nobody, Lowest}
 use Rattle.shelf.specs.Shelved.{shelf_rank, shelf_meaning}
-use Rattle.shelf.specs.Waiters.{lower_of}
 use Rattle.shelf.specs.declared.calls.Waiter.{Waiter}
 use Rattle.shelf.specs.declared.state.Shelf.{Shelf}
 
-pub record Foremost (q : Shelf) (n : ℕ) (b : Waiter) : Type 0 where
-  pub waits : shelf_rank q b.station ≡ Some b.rank
-  pub least : (t : ℕ) → t < n → (y : ℕ) → shelf_rank q t ≡ Some y → b.rank ≤ y
+abbrev pub waiter_at : ℕ × Option ℕ → Option Waiter
+waiter_at p = option_map (λ r. record { rank = r; station = p.0 }) p.1
 
-abbrev pub Best : Shelf → ℕ → Option Waiter → Type 0
-Best q n None = (t : ℕ) → t < n → shelf_rank q t ≡ None
-Best q n (Some b) = Foremost q n b
+abbrev pub waiters : ℕ → ℕ → List (Option ℕ) → List Waiter
+waiters a n xs = filter_map waiter_at (zip (range_with_len a n) xs)
 
--- a station that does not wait changes nothing
-pub best_skip : (q : Shelf) (n : ℕ) (o : Option Waiter) → shelf_rank q n ≡ None → Best q n o → Best q (n + 1) o
-best_skip q n None e h = below_more _ n h e
-best_skip q n (Some b) e h = record {
-  waits = h.waits;
-  least = below_more _ n h.least (λ y w. let z : ◌≡◌ {A = ℕ} 0 1 = cc in omega arith);
+abbrev pub lower : Waiter → Waiter → Waiter
+lower v w = min_by_ordering (ordering_then (nat_cmp v.rank w.rank) (nat_cmp v.station w.station)) v w
+
+abbrev pub Is : Shelf → Waiter → Type 0
+Is q w = shelf_rank q w.station ≡ Some w.rank
+
+one_in : (a t : ℕ) → a + 1 + t ≡ a + suc t
+one_in a t = omega arith
+
+-- what holds of each waiter holds of each station that waits
+pub waits_if_waiter : (P : Waiter → Type 0) (a n t y : ℕ) (xs : List (Option ℕ)) → All P (waiters a n xs) → t < n → slice_index_or xs t None ≡ Some y → P (record { rank = y; station = a + t })
+waits_if_waiter P a zero t y xs h l e = absurd (omega arith)
+waits_if_waiter P a (suc n) t y [] h l e = absurd cc
+waits_if_waiter P a (suc n) zero y (None ∷ xs) h l e = absurd cc
+waits_if_waiter P a (suc n) zero y (Some x ∷ xs) h l e = let q : x ≡ y = cc in subst (λ z. P (record { rank = z; station = a + 0 })) q (rw add-zero (All-head P _ _ h))
+waits_if_waiter P a (suc n) (suc t) y (None ∷ xs) h l e = rw (← one_in a t) (waits_if_waiter P (a + 1) n t y xs h (omega arith) e)
+waits_if_waiter P a (suc n) (suc t) y (Some x ∷ xs) h l e = rw (← one_in a t) (waits_if_waiter P (a + 1) n t y xs (All-tail P _ _ h) (omega arith) e)
+
+-- what holds of each station that waits holds of each waiter
+pub waiter_if_waits : (P : Waiter → Type 0) (a n : ℕ) (xs : List (Option ℕ)) → ((t y : ℕ) → t < n → slice_index_or xs t None ≡ Some y → P (record { rank = y; station = a + t })) → All P (waiters a n xs)
+waiter_if_waits P a zero xs h = All-nil P
+waiter_if_waits P a (suc n) [] h = All-nil P
+waiter_if_waits P a (suc n) (None ∷ xs) h = waiter_if_waits P (a + 1) n xs (λ t y l e. rw (one_in a t) (h (suc t) y (omega arith) e))
+waiter_if_waits P a (suc n) (Some x ∷ xs) h =
+    All-cons P _ _ (rw (← add-zero a) (h 0 x (omega arith) refl)) (waiter_if_waits P (a + 1) n xs (λ t y l e. rw (one_in a t) (h (suc t) y (omega arith) e)))
+
+lower_keeps : (P : Waiter → Type 0) (v w : Waiter) → P v → P w → P (lower v w)
+lower_keeps P v w h k = grind arith
+
+lower_least : (v w : Waiter) → ((lower v w).rank ≤ v.rank) × ((lower v w).rank ≤ w.rank)
+lower_least v w = grind (arith, nat_tests)
+
+fold_keeps : (P : Waiter → Type 0) (v : Waiter) (ws : List Waiter) → P v → All P ws → P (fold lower v ws)
+fold_keeps P v [] h k = h
+fold_keeps P v (w ∷ ws) h k = fold_keeps P (lower v w) ws (lower_keeps P v w h (All-head P w ws k)) (All-tail P w ws k)
+
+none_if_no_value : (o : Option ℕ) → ((y : ℕ) → o ≡ Some y → ⊥) → o ≡ None
+none_if_no_value None h = refl
+none_if_no_value (Some y) h = absurd (h y refl)
+
+fold_least : (v : Waiter) (ws : List Waiter) → All (λ w. (fold lower v ws).rank ≤ w.rank) (v ∷ ws)
+fold_least v [] = All-cons (λ w. v.rank ≤ w.rank) v [] (omega arith) (All-nil _)
+fold_least v (w ∷ ws) =
+    let P : Waiter → Type 0 = λ x. (fold lower (lower v w) ws).rank ≤ x.rank in
+    let h : All P (lower v w ∷ ws) = fold_least (lower v w) ws in
+    let k : P (lower v w) = All-head P (lower v w) ws h in
+    All-cons P v (w ∷ ws) (omega (arith, lower_least v w)) (All-cons P w ws (omega (arith, lower_least v w)) (All-tail P (lower v w) ws h))
+
+lowest_in : (q : Shelf) (ws : List Waiter) → All (Is q) ws
+    → ((P : Waiter → Type 0) → All P ws → (t y : ℕ) → shelf_rank q t ≡ Some y → P (record { rank = y; station = t }))
+    → MatchOption (reduce lower ws) (Nobody (shelf_meaning q)) (λ w. Lowest (shelf_meaning q) w.station)
+lowest_in q [] r h = λ t. none_if_no_value (shelf_rank q t) (h (λ _. ⊥) (All-nil _) t)
+lowest_in q (v ∷ ws) r h = record {
+  rank = (fold lower v ws).rank;
+  waits = fold_keeps (Is q) v ws (All-head (Is q) v ws r) (All-tail (Is q) v ws r);
+  least = h (λ w. (fold lower v ws).rank ≤ w.rank) (fold_least v ws);
 }
 
--- a station that waits is compared with the best so far
-pub best_more : (q : Shelf) (n x : ℕ) (o : Option Waiter) → shelf_rank q n ≡ Some x → Best q n o → Best q (n + 1) (Some (lower_of o n x))
-best_more q n x None e h = record {
-  waits = e;
-  least = below_more _ n (λ t l y w. let z : ◌≡◌ {A = ℕ} 0 1 = cc (h t l) in omega arith) (λ y w. let z : x ≡ y = cc in omega arith);
-}
-best_more q n x (Some b) e h =
-    cond_both _ _ _ (λ v. Foremost q (n + 1) v) (λ t. record {
-      waits = h.waits;
-      least = below_more _ n h.least (λ y w. let z : x ≡ y = cc in omega (arith, leb-true b.rank x t));
-    }) (λ f. record {
-      waits = e;
-      least = below_more _ n (λ t l y w. omega (arith, h.least t l y w, leb-false b.rank x f)) (λ y w. let z : x ≡ y = cc in omega arith);
-    })
-
--- past the last station nobody waits
-past_none : (q : Shelf) (t : ℕ) → q.stations ≤ t → shelf_rank q t ≡ None
-past_none q t h = cond-false _ _ _ (le-ltb t q.stations h)
-
-abbrev pub station_of : Option Waiter → Option ℕ
-station_of o = option_map (λ b. b.station) o
-
-pub nobody_from_best : (q : Shelf) (n : ℕ) → q.stations ≤ n → Best q n None → Nobody (shelf_meaning q)
-nobody_from_best q n h b = λ t. ⊎_elim (λ l. b t l) (λ l. past_none q t (omega arith)) (cases_lt t n)
-
-pub lowest_from_best : (q : Shelf) (n : ℕ) (w : Waiter) → q.stations ≤ n → Best q n (Some w) → Lowest (shelf_meaning q) w.station
-lowest_from_best q n w h b = record {
-  rank = w.rank;
-  waits = b.waits;
-  least = λ t y r. ⊎_elim (λ l. b.least t l y r) (λ l. let z : ◌≡◌ {A = ℕ} 0 1 = cc (past_none q t (omega arith)) in omega arith) (cases_lt t n);
-}
+pub lowest_from_reduce : (q : Shelf) (o : Option Waiter) → o ≡ reduce lower (waiters 0 q.stations q.ranks)
+    → MatchOption o (Nobody (shelf_meaning q)) (λ w. Lowest (shelf_meaning q) w.station)
+lowest_from_reduce q o e = rw e (lowest_in q _
+    (waiter_if_waits (Is q) 0 q.stations q.ranks (λ t y l r. grind (arith, nat_tests)))
+    (λ P h t y r. rw (← zero-add t) (waits_if_waiter P 0 q.stations t y q.ranks h (grind (arith, nat_tests)) (grind (arith, nat_tests)))))

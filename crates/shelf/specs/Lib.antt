@@ -1,2 +1,1 @@
 pub mod Shelved
-pub mod Waiters

@@ -1,8 +1,7 @@
 // The calls of a queue on a shelf.
-ghost use Rattle.std.specs.Prelude.{◌≡◌, ℕ, false, MatchOption, slice_index_or};
+ghost use Rattle.std.specs.Prelude.{◌≡◌, MatchOption};
 ghost use Rattle.queue.specs.Meaning.{Nobody, Lowest};
 ghost use Rattle.shelf.specs.Shelved.{shelf_meaning};
-ghost use Rattle.shelf.specs.Waiters.{lower_of};
 ghost use Rattle.std.proofs.Common.{rules};
 
 use super::state::Shelf;
@@ -16,8 +15,7 @@ impl Queue for Shelf {
 
     fn new() -> Shelf {
         Shelf {
-            ranks: [0; 256],
-            waiting: no_flags(),
+            ranks: [None; 256],
             stations: 1,
             taken: 0,
         }
@@ -27,7 +25,7 @@ impl Queue for Shelf {
         if stations == 0 || stations > 256 {
             return Err(Refusal::StationCount);
         }
-        clear(&mut self.waiting);
+        self.ranks.fill(None);
         self.stations = stations;
         self.taken = 0;
         Ok(())
@@ -37,17 +35,14 @@ impl Queue for Shelf {
         if station >= self.stations {
             return Err(Refusal::NoStation);
         }
-        let s = station as usize;
-        if !self.waiting[s] || rank < self.ranks[s] {
-            self.ranks[s] = rank;
-            self.waiting[s] = true;
-        }
+        let place = &mut self.ranks[usize::from(station)];
+        *place = Some(place.map_or(rank, |before| before.min(rank)));
         Ok(())
     }
 
     fn take(&mut self) -> Option<u16> {
         let station = self.lowest()?;
-        self.waiting[station as usize] = false;
+        self.ranks[usize::from(station)] = None;
         self.taken = self.taken.saturating_add(1);
         Some(station)
     }
@@ -56,7 +51,7 @@ impl Queue for Shelf {
         if station >= self.stations {
             return Err(Refusal::NoStation);
         }
-        Ok(self.waiting[station as usize])
+        Ok(self.ranks[usize::from(station)].is_some())
     }
 
     fn taken(&self) -> u16 {
@@ -69,44 +64,20 @@ impl Shelf {
     fn lowest(&self) -> Option<u16>
         ensures found { MatchOption result (Nobody (shelf_meaning self.now)) (λ s. Lowest (shelf_meaning self.now) s) }
     {
-        let mut best = None;
-        for s in 0..self.stations {
-            if self.waiting[s as usize] {
-                best = Some(lower(best, s, self.ranks[s as usize]));
-            }
-        }
-        let Waiter { station, .. } = best?;
-        Some(station)
+        (0..self.stations)
+            .zip(&self.ranks)
+            .filter_map(|(station, &rank)| Some(Waiter {
+                rank: rank?,
+                station,
+            }))
+            .min()
+            .map(|waiter| waiter.station)
     }
 }
 
-// A station, and the rank at which it waits.
-#[derive(Clone, Copy)]
+// A station, and the rank at which it waits: the lower rank comes first, and of one rank the lower station.
+#[derive(Clone, Copy, PartialEq, Eq, PartialOrd, Ord)]
 struct Waiter {
-    station: u16,
     rank: u64,
-}
-
-// The best so far, or the station in its place where that waits at a lower rank.
-fn lower(best: Option<Waiter>, station: u16, rank: u64) -> Waiter
-    ensures value { result ≡ lower_of best station rank }
-{
-    match best {
-        Some(b) if b.rank <= rank => b,
-        _ => Waiter { station, rank },
-    }
-}
-
-// Flags of which none is set.
-fn no_flags() -> [bool; 256]
-    ensures unset { (s : ℕ) → slice_index_or result s false ≡ false }
-{
-    [false; 256]
-}
-
-// Takes all flags back.
-fn clear(flags: &mut [bool])
-    ensures unset { (s : ℕ) → slice_index_or flags.new s false ≡ false }
-{
-    flags.fill(false);
+    station: u16,
 }

@@ -1,4 +1,4 @@
-// The shelf: a queue that keeps a rank and a flag for each station, and looks through all of them to take one.
+// The shelf: a queue that keeps the rank of each station that waits, and looks through all stations to take one.
 // Rests on the meaning of queues.
 // Made for small campuses, where looking through all stations is soon done.
 #![tactic(auto)]

@@ -1,11 +1,10 @@
 // What a shelf is made of.
 ghost use Rattle.std.specs.Prelude.{◌≤◌};
 
-// A rank for each station, of use only where the flag says that the station waits.
+// The rank of each station that waits, and nothing where a station does not wait.
 #[derive(Drop)]
 pub struct Shelf {
-    pub(crate) ranks: [u64; 256],
-    pub(crate) waiting: [bool; 256],
+    pub(crate) ranks: [Option<u64>; 256],
     pub(crate) stations: u16,
     pub(crate) taken: u16,
     ghost some_station: { 1 ≤ stations },
