@@ -66,10 +66,7 @@ impl Shelf {
     {
         (0..self.stations)
             .zip(&self.ranks)
-            .filter_map(|(station, &rank)| Some(Waiter {
-                rank: rank?,
-                station,
-            }))
+            .filter_map(|(station, rank)| rank.map(|rank| Waiter { rank, station }))
             .min()
             .map(|waiter| waiter.station)
     }
