@@ -41,7 +41,7 @@ impl Queue for Shelf {
     }
 
     fn take(&mut self) -> Option<u16> {
-        let station = self.lowest()?;
+        let station = self.lowest()?.station;
         self.ranks[usize::from(station)] = None;
         self.taken = self.taken.saturating_add(1);
         Some(station)
@@ -60,15 +60,14 @@ impl Queue for Shelf {
 }
 
 impl Shelf {
-    // The first station of the lowest rank, if anybody waits.
-    fn lowest(&self) -> Option<u16>
-        ensures found { MatchOption result (Nobody (shelf_meaning self.now)) (λ s. Lowest (shelf_meaning self.now) s) }
+    // The first station of the lowest rank, with that rank, if anybody waits.
+    fn lowest(&self) -> Option<Waiter>
+        ensures { MatchOption result (Nobody (shelf_meaning self.now)) (λ w. Lowest (shelf_meaning self.now) w.station) }
     {
         (0..self.stations)
             .zip(&self.ranks)
             .filter_map(|(station, rank)| rank.map(|rank| Waiter { rank, station }))
             .min()
-            .map(|waiter| waiter.station)
     }
 }
 

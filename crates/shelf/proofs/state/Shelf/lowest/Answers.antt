@@ -7,10 +7,9 @@ use Rattle.shelf.proofs.state.Shelf.lowest.Goals as goal
 pub returns : goal.returns
 returns c =
     let q = c.args.self.now in
-    let h = lowest_from_reduce q c.min.result (reduce_from_yields_List lower c.filter_map.result _ c.min.ensures.ran
+    lowest_from_reduce q c.min.result (reduce_from_yields_List lower c.filter_map.result _ c.min.ensures.ran
     (YieldsList-from_filter_map _ waiter_at
     (YieldsList-at c.filter_map.ensures.source (YieldsList-from_zip
     (YieldsList-at c.zip.ensures.first (YieldsList-from_range 0 q.stations q.stations refl (omega arith)))
     (YieldsList-from_slice q.ranks cc)))
-    c.filter_map.ensures.closure (λ x r k h. search (rules, tests)))) in
-    record { found = search rules }
+    c.filter_map.ensures.closure (λ x r k h. search (rules, tests))))
