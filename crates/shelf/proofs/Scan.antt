@@ -1,6 +1,6 @@
 -- The stations that wait, with their ranks, as `lowest` looks through them.
 --
---   waiter_at p          the waiter of what stands at a station's place, and that station
+--   waiter_at p          the waiter of a station and what stands at its place
 --   waiters a n xs       the waiters of the n stations from a on, whose ranks xs has in order
 --   lower v w            the waiter of the lower rank, or of the lower station at one rank
 --   Is q w               w is a station that waits on the shelf q, with its rank
@@ -15,11 +15,11 @@ use Rattle.shelf.specs.Shelved.{shelf_rank, shelf_meaning}
 use Rattle.shelf.specs.declared.calls.Waiter.{Waiter}
 use Rattle.shelf.specs.declared.state.Shelf.{Shelf}
 
-abbrev pub waiter_at : Option ℕ × ℕ → Option Waiter
-waiter_at p = option_map (λ r. record { rank = r; station = p.1 }) p.0
+abbrev pub waiter_at : ℕ × Option ℕ → Option Waiter
+waiter_at p = option_map (λ r. record { rank = r; station = p.0 }) p.1
 
 abbrev pub waiters : ℕ → ℕ → List (Option ℕ) → List Waiter
-waiters a n xs = filter_map waiter_at (zip xs (range_with_len a n))
+waiters a n xs = filter_map waiter_at (zip (range_with_len a n) xs)
 
 abbrev pub lower : Waiter → Waiter → Waiter
 lower v w = min_by_ordering (ordering_then (nat_cmp v.rank w.rank) (nat_cmp v.station w.station)) v w
@@ -32,8 +32,8 @@ one_in a t = omega arith
 
 -- what holds of each waiter holds of each station that waits
 waits_if_waiter : (P : Waiter → Type 0) (a n t y : ℕ) (xs : List (Option ℕ)) → All P (waiters a n xs) → t < n → slice_index_or xs t None ≡ Some y → P (record { rank = y; station = a + t })
-waits_if_waiter P a n t y [] h l e = absurd cc
-waits_if_waiter P a zero t y (x ∷ xs) h l e = absurd (omega arith)
+waits_if_waiter P a zero t y xs h l e = absurd (omega arith)
+waits_if_waiter P a (suc n) t y [] h l e = absurd cc
 waits_if_waiter P a (suc n) zero y (None ∷ xs) h l e = absurd cc
 waits_if_waiter P a (suc n) zero y (Some x ∷ xs) h l e = let q : x ≡ y = cc in rw (add-zero, ← q) (All-head P _ _ h)
 waits_if_waiter P a (suc n) (suc t) y (None ∷ xs) h l e = rw (← one_in a t) (waits_if_waiter P (a + 1) n t y xs h (omega arith) e)
@@ -41,8 +41,8 @@ waits_if_waiter P a (suc n) (suc t) y (Some x ∷ xs) h l e = rw (← one_in a t
 
 -- what holds of each station that waits holds of each waiter
 waiter_if_waits : (P : Waiter → Type 0) (a n : ℕ) (xs : List (Option ℕ)) → ((t y : ℕ) → t < n → slice_index_or xs t None ≡ Some y → P (record { rank = y; station = a + t })) → All P (waiters a n xs)
-waiter_if_waits P a n [] h = All-nil P
-waiter_if_waits P a zero (x ∷ xs) h = All-nil P
+waiter_if_waits P a zero xs h = All-nil P
+waiter_if_waits P a (suc n) [] h = All-nil P
 waiter_if_waits P a (suc n) (None ∷ xs) h = waiter_if_waits P (a + 1) n xs (λ t y l e. rw (one_in a t) (h (suc t) y (omega arith) e))
 waiter_if_waits P a (suc n) (Some x ∷ xs) h =
     All-cons P _ _ (rw (← add-zero a) (h 0 x (omega arith) refl)) (waiter_if_waits P (a + 1) n xs (λ t y l e. rw (one_in a t) (h (suc t) y (omega arith) e)))

@@ -64,10 +64,9 @@ impl Shelf {
     fn lowest(&self) -> Option<Waiter>
         ensures { MatchOption result (Nobody (shelf_meaning self.now)) (λ w. Lowest (shelf_meaning self.now) w.station) }
     {
-        self.ranks
-            .iter()
-            .zip(0..self.stations)
-            .filter_map(|(rank, station)| rank.map(|rank| Waiter { rank, station }))
+        (0..self.stations)
+            .zip(&self.ranks)
+            .filter_map(|(station, rank)| rank.map(|rank| Waiter { rank, station }))
             .min()
     }
 }

@@ -11,6 +11,6 @@ returns c =
     lowest_from_reduce q _ (reduce_from_yields_List lower _ _ c.min.ensures.ran
     (YieldsList-from_filter_map _ waiter_at
     (YieldsList-at c.filter_map.ensures.source (YieldsList-from_zip
-    (YieldsList-from_slice q.ranks cc)
-    (YieldsList-at c.zip.ensures.second (YieldsList-from_range 0 q.stations q.stations refl (omega arith)))))
+    (YieldsList-at c.zip.ensures.first (YieldsList-from_range 0 q.stations q.stations refl (omega arith)))
+    (YieldsList-from_slice q.ranks cc)))
     c.filter_map.ensures.closure (λ x r k h. search (rules, tests))))
