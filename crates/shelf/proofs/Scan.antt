@@ -27,6 +27,7 @@ lower v w = min_by_ordering (ordering_then (nat_cmp v.rank w.rank) (nat_cmp v.st
 abbrev pub Is : Shelf → Waiter → Type 0
 Is q w = shelf_rank q w.station ≡ Some w.rank
 
+-- the station after t others from a + 1 on is the one after t + 1 from a on
 one_in : (a t : ℕ) → a + 1 + t ≡ a + suc t
 one_in a t = omega arith
 
@@ -47,9 +48,11 @@ waiter_if_waits P a (suc n) (None ∷ xs) h = waiter_if_waits P (a + 1) n xs (λ
 waiter_if_waits P a (suc n) (Some x ∷ xs) h =
     All-cons P _ _ (rw (← add-zero a) (h 0 x (omega arith) refl)) (waiter_if_waits P (a + 1) n xs (λ t y l e. rw (one_in a t) (h (suc t) y (omega arith) e)))
 
+-- the lower of two is one of them
 lower_keeps : (P : Waiter → Type 0) (v w : Waiter) → P v → P w → P (lower v w)
 lower_keeps P v w h k = grind arith
 
+-- neither rank is below its rank
 lower_least : (v w : Waiter) → ((lower v w).rank ≤ v.rank) × ((lower v w).rank ≤ w.rank)
 lower_least v w = grind (arith, nat_tests)
 
@@ -65,10 +68,12 @@ fold_least v (w ∷ ws) =
     let h = fold_least (lower v w) ws in
     (omega (arith, h, lower_least v w), All-cons (λ x. (fold lower (lower v w) ws).rank ≤ x.rank) w ws (omega (arith, h, lower_least v w)) h.1)
 
+-- an option that is no value is none
 none_if_no_value : (o : Option ℕ) → ((y : ℕ) → o ≡ Some y → ⊥) → o ≡ None
 none_if_no_value None h = refl
 none_if_no_value (Some y) h = absurd (h y refl)
 
+-- the lowest of some waiters is the queue's, where they are the stations that wait
 lowest_in : (q : Shelf) (ws : List Waiter) → All (Is q) ws
     → ((P : Waiter → Type 0) → All P ws → (t y : ℕ) → shelf_rank q t ≡ Some y → P (record { rank = y; station = t }))
     → MatchOption (reduce lower ws) (Nobody (shelf_meaning q)) (λ w. Lowest (shelf_meaning q) w.station)
@@ -82,6 +87,7 @@ lowest_in q (v ∷ ws) r h =
       least = h P (All-cons P v ws f.0 f.1);
     }
 
+-- what the chain takes is the queue's lowest
 pub lowest_from_reduce : (q : Shelf) (o : Option Waiter) → o ≡ reduce lower (waiters 0 q.stations q.ranks)
     → MatchOption o (Nobody (shelf_meaning q)) (λ w. Lowest (shelf_meaning q) w.station)
 lowest_from_reduce q o e = rw e (lowest_in q _
