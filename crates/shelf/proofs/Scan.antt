@@ -2,14 +2,20 @@
 --
 --   waiter_at p          the waiter of a station and what stands at its place
 --   waiters a n xs       the waiters of the n stations from a on, whose ranks xs has in order
---   lower v w            the waiter of the lower rank, or of the lower station at one rank
 --   Is q w               w is a station that waits on the shelf q, with its rank
-use Rattle.std.proofs.Common.{◌≡◌, ℕ, zero, suc, ◌+◌, ◌<◌, ◌≤◌, List, [], ◌∷◌, Some, None, Option, MatchOption, slice_index_or, arith, refl, add-zero, zero-add}
-use Rattle.std.specs.Option.{option_map}
-use Rattle.std.specs.Ordering.{nat_cmp, ordering_then, min_by_ordering}
-use Rattle.std.specs.List.{filter_map, zip, range_with_len, fold, reduce, All}
+use Rattle.std.proofs.Common.{◌≡◌, ℕ, zero, suc, ◌+◌, ◌<◌, ◌≤◌, List, [], ◌∷◌, Some, None, Option, MatchOption, arith, refl, sym, subst, true, false, ◌∙◌, slice_index_or, add-zero, zero-add, map-id}
+use Rattle.std.specs.Option.{option_map, IfSome, IsSomeAnd}
+use Rattle.std.specs.Ordering.{nat_cmp, is_lt}
+use Rattle.std.specs.List.{filter_map, zip, range_with_len, All}
 use Rattle.std.proofs.lemmas.Bool.Decides.{nat_tests}
 use Rattle.std.proofs.lemmas.List.Elements.{All-head, All-tail, All-cons, All-nil}
+use Rattle.std.specs.Fn.{CalledAt}
+use Rattle.std.specs.Iterator.{Yields}
+use Rattle.std.proofs.iter.runs.Made.{took}
+use Rattle.std.proofs.lemmas.Iterator.{YieldsList, items_from_drains}
+use Rattle.std.specs.Iterator.Runs.{Run, AnyItem, NoKeyBeyond, CallKeepsClosure}
+use denote.Param.Members.{Mut}
+use denote.Ref.{Bor}
 use Rattle.queue.specs.Meaning.{Nobody, Lowest}
 use Rattle.shelf.specs.Shelved.{shelf_rank, shelf_meaning}
 use Rattle.shelf.specs.declared.calls.Waiter.{Waiter}
@@ -20,9 +26,6 @@ waiter_at p = option_map (λ r. record { rank = r; station = p.0 }) p.1
 
 abbrev pub waiters : ℕ → ℕ → List (Option ℕ) → List Waiter
 waiters a n xs = filter_map waiter_at (zip (range_with_len a n) xs)
-
-abbrev pub lower : Waiter → Waiter → Waiter
-lower v w = min_by_ordering (ordering_then (nat_cmp v.rank w.rank) (nat_cmp v.station w.station)) v w
 
 abbrev pub Is : Shelf → Waiter → Type 0
 Is q w = shelf_rank q w.station ≡ Some w.rank
@@ -48,48 +51,54 @@ waiter_if_waits P a (suc n) (None ∷ xs) h = waiter_if_waits P (a + 1) n xs (λ
 waiter_if_waits P a (suc n) (Some x ∷ xs) h =
     All-cons P _ _ (rw (← add-zero a) (h 0 x (omega arith) refl)) (waiter_if_waits P (a + 1) n xs (λ t y l e. rw (one_in a t) (h (suc t) y (omega arith) e)))
 
--- the lower of two is one of them
-lower_keeps : (P : Waiter → Type 0) (v w : Waiter) → P v → P w → P (lower v w)
-lower_keeps P v w h k = grind arith
-
--- neither rank is below its rank
-lower_least : (v w : Waiter) → ((lower v w).rank ≤ v.rank) × ((lower v w).rank ≤ w.rank)
-lower_least v w = grind (arith, nat_tests)
-
--- the lowest of all is one of them
-fold_keeps : (P : Waiter → Type 0) (v : Waiter) (ws : List Waiter) → P v → All P ws → P (fold lower v ws)
-fold_keeps P v [] h k = h
-fold_keeps P v (w ∷ ws) h k = fold_keeps P (lower v w) ws (lower_keeps P v w h (All-head P w ws k)) (All-tail P w ws k)
-
--- no rank is below its rank
-fold_least : (v : Waiter) (ws : List Waiter) → ((fold lower v ws).rank ≤ v.rank) × All (λ w. (fold lower v ws).rank ≤ w.rank) ws
-fold_least v [] = (omega arith, All-nil _)
-fold_least v (w ∷ ws) =
-    let h = fold_least (lower v w) ws in
-    (omega (arith, h, lower_least v w), All-cons (λ x. (fold lower (lower v w) ws).rank ≤ x.rank) w ws (omega (arith, h, lower_least v w)) h.1)
-
 -- an option that is no value is none
 none_if_no_value : (o : Option ℕ) → ((y : ℕ) → o ≡ Some y → ⊥) → o ≡ None
 none_if_no_value None h = refl
 none_if_no_value (Some y) h = absurd (h y refl)
 
--- the lowest of some waiters is the queue's, where they are the stations that wait
-lowest_in : (q : Shelf) (ws : List Waiter) → All (Is q) ws
-    → ((P : Waiter → Type 0) → All P ws → (t y : ℕ) → shelf_rank q t ≡ Some y → P (record { rank = y; station = t }))
-    → MatchOption (reduce lower ws) (Nobody (shelf_meaning q)) (λ w. Lowest (shelf_meaning q) w.station)
-lowest_in q [] r h = λ t. none_if_no_value (shelf_rank q t) (h (λ _. ⊥) (All-nil _) t)
-lowest_in q (v ∷ ws) r h =
-    let P : Waiter → Type 0 = λ w. (fold lower v ws).rank ≤ w.rank in
-    let f = fold_least v ws in
-    record {
-      rank = (fold lower v ws).rank;
-      waits = fold_keeps (Is q) v ws (All-head (Is q) v ws r) (All-tail (Is q) v ws r);
-      least = h P (All-cons P v ws f.0 f.1);
-    }
+-- what holds of the value of an option holds of an equal value
+at_value : (P : Waiter → Type 0) (o : Option Waiter) (w : Waiter) → option_map (λ y. y) o ≡ Some w → IfSome o P → P w
+at_value P None w e h = absurd cc
+at_value P (Some v) w e h = let q : v ≡ w = cc in subst P q h
 
--- what the chain takes is the queue's lowest
-pub lowest_from_reduce : (q : Shelf) (o : Option Waiter) → o ≡ reduce lower (waiters 0 q.stations q.ranks)
-    → MatchOption o (Nobody (shelf_meaning q)) (λ w. Lowest (shelf_meaning q) w.station)
-lowest_from_reduce q o e = rw e (lowest_in q _
-    (waiter_if_waits (Is q) 0 q.stations q.ranks (λ t y l r. grind (arith, nat_tests)))
-    (λ P h t y r. rw (← zero-add t) (waits_if_waiter P 0 q.stations t y q.ranks h (grind (arith, nat_tests)) (grind (arith, nat_tests)))))
+-- two values of one option are equal
+is_value : (o : Option Waiter) (w m : Waiter) → option_map (λ y. y) o ≡ Some w → IsSomeAnd o (λ x. x ≡ m) → w ≡ m
+is_value None w m e h = absurd h
+is_value (Some v) w m e h = cc
+
+-- a rank that is not below another is at least that
+not_below : (j k : ℕ) → is_lt (nat_cmp j k) ≡ false → k ≤ j
+not_below j k h = grind (arith, nat_tests)
+
+-- p is a run of the chain, and f gives a waiter's rank
+module _ {S F : Type 0} {steps : S → Option Waiter → S → Type 0} (g : Mut F (Bor Waiter × Unit {0}) ℕ) (f : F) (keeps : CallKeepsClosure g f) (gives : (w : Waiter) (k : ℕ) → CalledAt g f w k f → k ≡ w.rank) (q : Shelf) (p : Run steps) where
+  -- the item of the lowest rank is the queue's, where the items are the stations that wait
+  in_run : (o : Option Waiter) → All (Is q) p.items
+      → ((P : Waiter → Type 0) → All P p.items → (t y : ℕ) → shelf_rank q t ≡ Some y → P (record { rank = y; station = t }))
+      → MatchOption o (p.len ≡ 0) (λ m. AnyItem p (λ x. x ≡ m) × NoKeyBeyond p g f is_lt nat_cmp m)
+      → MatchOption o (Nobody (shelf_meaning q)) (λ w. Lowest (shelf_meaning q) w.station)
+  in_run None r h e = λ t. none_if_no_value (shelf_rank q t) (h (λ _. ⊥) (λ k d l. absurd (omega (arith, p.long))) t)
+  in_run (Some m) r h e =
+      let a = e.0 in
+      let b = e.1 keeps in
+      let same : slice_index_or p.items a.0 m ≡ m = is_value (p.at a.0) (slice_index_or p.items a.0 m) m (p.reads a.0 m a.1) a.2 in
+      record {
+        rank = m.rank;
+        waits = subst (Is q) same (r a.0 m (omega (arith, p.long)));
+        least = h (λ w. m.rank ≤ w.rank) (λ k d l.
+            let w = slice_index_or p.items k d in
+            let j = at_value (λ x. (j : ℕ) × CalledAt g f x j f × (is_lt (nat_cmp j b.0) ≡ false)) (p.at k) w (p.reads k d (omega (arith, p.long))) (b.2 k) in
+            omega (arith, gives w j.0 j.1, gives m b.0 b.1, not_below j.0 b.0 j.2));
+      }
+
+  -- the same, where the run gives the waiters
+  pub lowest_from_run : (o : Option Waiter) (s : S) → p.from ≡ s → p.whole ≡ true → YieldsList steps (λ x. x) s (waiters 0 q.stations q.ranks)
+      → MatchOption o (p.len ≡ 0) (λ m. AnyItem p (λ x. x ≡ m) × NoKeyBeyond p g f is_lt nat_cmp m)
+      → MatchOption o (Nobody (shelf_meaning q)) (λ w. Lowest (shelf_meaning q) w.station)
+  lowest_from_run o s e w y m =
+      let t = took p in
+      let i : p.items ≡ waiters 0 q.stations q.ranks = sym (map-id p.items) ∙ items_from_drains p.items (t.0, subst (λ z. Yields steps z p.items t.0) e t.1, λ _. t.2 w) y in
+      in_run o
+      (subst (All (Is q)) (sym i) (waiter_if_waits (Is q) 0 q.stations q.ranks (λ t y l r. grind (arith, nat_tests))))
+      (λ P h t y r. rw (← zero-add t) (waits_if_waiter P 0 q.stations t y q.ranks (subst (All P) i h) (grind (arith, nat_tests)) (grind (arith, nat_tests))))
+      m

@@ -66,14 +66,14 @@ impl Shelf {
     {
         (0..self.stations)
             .zip(&self.ranks)
-            .filter_map(|(station, rank)| rank.map(|rank| Waiter { rank, station }))
-            .min()
+            .filter_map(|(station, rank)| rank.map(|rank| Waiter { station, rank }))
+            .min_by_key(|waiter| waiter.rank)
     }
 }
 
-// A station, and the rank at which it waits: the lower rank comes first, and of one rank the lower station.
-#[derive(Clone, Copy, PartialEq, Eq, PartialOrd, Ord)]
+// A station, and the rank at which it waits.
+#[derive(Clone, Copy)]
 struct Waiter {
-    rank: u64,
     station: u16,
+    rank: u64,
 }
