@@ -4,7 +4,6 @@
 #![tactic(auto)]
 
 mod limit;
-mod lines;
 mod text;
 
 pub use limit::bytes_to_read;
