@@ -1,0 +1,112 @@
+// Calls of the library, and what they answer.
+use super::case::Call;
+use cost::{Cost, Link};
+use filekind::FileKind;
+use planfile::{Fields, read, write};
+use refusal::{Facts, Refusal};
+use std::alloc::{AllocError, Global};
+
+// What fills a buffer before it is written to.
+const OLD: u8 = 238;
+
+// Why a call has no value: the library refuses it, or memory runs out.
+#[derive(Drop)]
+enum Stop {
+    Refused(Refusal),
+    NoMemory(AllocError),
+}
+
+// A refusal by the library.
+impl From<Refusal> for Stop {
+    fn from(refusal: Refusal) -> Stop {
+        Stop::Refused(refusal)
+    }
+}
+
+// A lack of memory.
+impl From<AllocError> for Stop {
+    fn from(error: AllocError) -> Stop {
+        Stop::NoMemory(error)
+    }
+}
+
+// The answer to a call for one kind.
+pub fn answer<K: FileKind>(heap: Global, call: &Call) -> Result<String, AllocError> {
+    match call {
+        Call::Read { places, bytes } => told(heap, read_back::<K>(heap, *places, bytes)),
+        Call::Write {
+            stations,
+            room,
+            links,
+        } => {
+            let mut buffer = vec![in heap; OLD; *room]?;
+            let answer = told(heap, write_out::<K>(heap, *stations, links, &mut buffer))?;
+            let held = hex::encode(heap, buffer.as_slice())?;
+            format!(in heap; "{answer} {held}")
+        }
+        Call::Form { number } => told(heap, form::<K>(heap, *number)),
+    }
+}
+
+// The text of a value, or the line of the refusal that stands in its place.
+fn told(heap: Global, value: Result<String, Stop>) -> Result<String, AllocError> {
+    match value {
+        Ok(text) => Ok(text),
+        Err(Stop::Refused(refusal)) => refused(heap, refusal),
+        Err(Stop::NoMemory(error)) => Err(error),
+    }
+}
+
+// A refusal's number and facts, and for a faulty record the layer of the fault.
+fn refused(heap: Global, refusal: Refusal) -> Result<String, AllocError> {
+    let code = refusal.code();
+    match code.facts {
+        Facts::Below { layer, .. } => format!(in heap; "refused {code} {layer}"),
+        _ => format!(in heap; "refused {code}"),
+    }
+}
+
+// Reads a file into a list of so many places, and says whether writing gives the file again and no byte more.
+fn read_back<K: FileKind>(heap: Global, places: usize, bytes: &[u8]) -> Result<String, Stop> {
+    let nowhere = Link {
+        from: 9,
+        to: 9,
+        cost: K::far(),
+    };
+    let mut list = vec![in heap; nowhere; places]?;
+    let counts = read::<K>(bytes, &mut list)?;
+    list.truncate(counts.links as usize);
+    let mut buffer = vec![in heap; OLD; bytes.len() + 1]?;
+    let back = write::<K>(counts.stations, &list, &mut buffer)?;
+    let tail = buffer.pop();
+    let same = back == bytes.len() && tail == Some(OLD) && buffer.as_slice() == bytes;
+    Ok(format!(in heap; "ok {counts} {same}")?)
+}
+
+// Writes links into a buffer, and says how long their file is.
+fn write_out<K: FileKind>(
+    heap: Global,
+    stations: u16,
+    links: &[Fields],
+    buffer: &mut [u8],
+) -> Result<String, Stop> {
+    let links: Vec<Link<K>> = links.iter().map(|x| link(*x)).try_collect(heap)?;
+    let len = write::<K>(stations, &links, buffer)?;
+    Ok(format!(in heap; "ok {len}")?)
+}
+
+// The link of three numbers.
+fn link<K: FileKind>(numbers: Fields) -> Result<Link<K>, Stop> {
+    Ok(Link {
+        from: numbers.from,
+        to: numbers.to,
+        cost: K::form(numbers.number)?,
+    })
+}
+
+// Forms a cost, and says its rank and whether it is FAR.
+fn form<K: FileKind>(heap: Global, number: u64) -> Result<String, Stop> {
+    let rank = K::form(number)?.rank();
+    let far = rank == K::far().rank();
+    Ok(format!(in heap; "ok {rank} {far}")?)
+}
