@@ -36,7 +36,7 @@ impl Case {
         match words.as_slice() {
             ["#", ..] => Ok(Case::Comment),
             [call, kind, arguments @ ..] => {
-                Ok(Case::Call(kind_named(kind)?, Call::parse(heap, call, arguments)?))
+                Ok(Case::Call(kind_named(kind), Call::parse(heap, call, arguments)?))
             }
             _ => bail!("no case: {line}"),
         }
@@ -48,29 +48,29 @@ impl Call {
     // The call of a name, with what it is given.
     fn parse(heap: Global, name: &str, arguments: &[&str]) -> Result<Call> {
         match (name, arguments) {
-            ("read", [places, file]) => Ok(Call::Read {
+            ("read", [places, file, ..]) => Ok(Call::Read {
                 places: places.parse()?,
                 bytes: hex::decode(heap, *file)?,
             }),
-            ("write", [stations, room, links]) => Ok(Call::Write {
+            ("write", [stations, room, links, ..]) => Ok(Call::Write {
                 stations: stations.parse()?,
                 room: room.parse()?,
                 links: links_listed(heap, links)?,
             }),
-            ("form", [number]) => Ok(Call::Form {
+            ("read" | "write", _) => bail!("too few words for {name}"),
+            (_, [number, ..]) => Ok(Call::Form {
                 number: number.parse()?,
             }),
-            _ => bail!("no call: {name}"),
+            _ => bail!("no number for {name}"),
         }
     }
 }
 
-// The kind of a name.
-fn kind_named(name: &str) -> Result<Kind> {
+// The kind of a name; every other name than that of split stands for sum.
+fn kind_named(name: &str) -> Kind {
     match name {
-        "sum" => Ok(Kind::Sum),
-        "split" => Ok(Kind::Split),
-        _ => bail!("no kind: {name}"),
+        "split" => Kind::Split,
+        _ => Kind::Sum,
     }
 }
 
