@@ -1,31 +1,41 @@
 -- The search for the first fault, one record on: the table of pairs stands for the records before.
-use Rattle.std.proofs.Common.{◌≡◌, ℕ, ◌+◌, ◌<◌, ◌≤◌, Bool, true, false, List, [], ◌∷◌, ◌++◌, length, get_or, take, drop, set, Some, None, sym, ap, ◌∙◌, subst, ap₂, le_of_lt}
-use Rattle.std.proofs.lemmas.List.{at_drop_more, take_more, length-take-le}
+use Rattle.std.proofs.Common.{◌≡◌, ℕ, ◌+◌, ◌<◌, ◌≤◌, Bool, true, false, List, [], ◌∷◌, ◌++◌, map, length, get_or, take, drop, set, Some, None, sym, ◌∙◌, arith}
+use Rattle.std.proofs.lemmas.List.{drop_more, take_more, get_or-map, length-map, length-take-le}
 use Rattle.filekind.specs.Format.{Format}
 use Rattle.refusal.specs.declared.Facts.{Facts}
-use Rattle.planfile.specs.Faults.{fault, first_fault, or_else, repeats}
+use Rattle.planfile.specs.Faults.{fault, first_fault, or_else}
+use Rattle.planfile.specs.Records.{first_fields}
 use Rattle.planfile.specs.declared.fields.Fields.{Fields}
 use Rattle.planfile.proofs.Seen.{Holds, place, holds_more, fault_seen, sound_low}
 
-module _ (f : Format) (n : ℕ) (few : n ≤ 256) (xs : List Fields) (i : ℕ) (within : i < length xs) (seen : List Bool) (holds : Holds seen (take i xs)) (x : Fields) (item : x ≡ get_or xs i x) where
-  pushed : take (i + 1) xs ≡ take i xs ++ (x ∷ [])
-  pushed = take_more xs i x within ∙ ap (λ y. take i xs ++ (y ∷ [])) (sym item)
+-- the records rs before the one at i have no fault, and a table for so many stations tells of their pairs
+pub record Searched (f : Format) (n : ℕ) (rs : List (List ℕ)) (i stations : ℕ) (seen : List Bool) : Type 0 where
+  pub of_plan : stations ≡ n
+  pub table : Holds seen (take i (map first_fields rs))
+  pub rest : first_fault f n (take i (map first_fields rs)) (drop i (map first_fields rs)) ≡ first_fault f n [] (map first_fields rs)
 
-  here : fault f n (length (take i xs)) (repeats (take i xs) x) x ≡ fault f n i (get_or seen (place x) false) x
-  here = ap (λ k. fault f n k (repeats (take i xs) x) x) (length-take-le i xs (le_of_lt within)) ∙ sym (fault_seen f n i seen (take i xs) x few holds)
+-- so far the search has come, and x is the record at i
+module _ {f : Format} {n i stations : ℕ} {rs : List (List ℕ)} {seen : List Bool} {x : Fields} (so_far : Searched f n rs i stations seen) (few : n ≤ 256) (within : i < length rs) (is : x ≡ first_fields (get_or rs i [])) where
+  -- it stands between those before it and those after it, and i are before it
+  parts : (take (i + 1) (map first_fields rs) ≡ take i (map first_fields rs) ++ x ∷ []) × (drop i (map first_fields rs) ≡ x ∷ drop (i + 1) (map first_fields rs)) × (length (take i (map first_fields rs)) ≡ i)
+  parts =
+      let xs = map first_fields rs in
+      let inside : i < length xs = omega (arith, length-map rs first_fields) in
+      let item : get_or xs i x ≡ x = get_or-map first_fields rs i [] x within ∙ sym is in
+      (rw (take_more xs i x inside, item), rw (drop_more xs i x inside, item), length-take-le i xs (omega arith))
 
-  -- the fault of record i comes before those of the records after it
-  split : first_fault f n (take i xs) (drop i xs) ≡ or_else (fault f n i (get_or seen (place x) false) x) (first_fault f n (take (i + 1) xs) (drop (i + 1) xs))
-  split =
-      at_drop_more (first_fault f n (take i xs)) xs i x within
-      ∙ ap (λ y. first_fault f n (take i xs) (y ∷ drop (i + 1) xs)) (sym item)
-      ∙ ap₂ or_else here (ap (λ l. first_fault f n l (drop (i + 1) xs)) (sym pushed))
+  -- its fault comes before those of the records after it
+  split : or_else (fault f stations i (get_or seen (place x) false) x) (first_fault f n (take (i + 1) (map first_fields rs)) (drop (i + 1) (map first_fields rs))) ≡ first_fault f n [] (map first_fields rs)
+  split = rw (so_far.of_plan, fault_seen f n i seen (take i (map first_fields rs)) x few so_far.table, parts.0) (rw (parts.1, parts.2) at so_far.rest)
 
-  pub fault_here : (facts : Facts) → Some facts ≡ fault f n i (get_or seen (place x) false) x → Some facts ≡ first_fault f n (take i xs) (drop i xs)
-  fault_here facts found = sym (split ∙ ap (λ o. or_else o (first_fault f n (take (i + 1) xs) (drop (i + 1) xs))) (sym found))
+  -- its fault is the first of all
+  pub fault_found : {facts : Facts} → Some facts ≡ fault f stations i (get_or seen (place x) false) x → Some facts ≡ first_fault f n [] (map first_fields rs)
+  fault_found found = rw (← found) at split
 
-  pub no_fault_here : None ≡ fault f n i (get_or seen (place x) false) x → first_fault f n (take (i + 1) xs) (drop (i + 1) xs) ≡ first_fault f n (take i xs) (drop i xs)
-  no_fault_here none = sym (split ∙ ap (λ o. or_else o (first_fault f n (take (i + 1) xs) (drop (i + 1) xs))) (sym none))
-
-  pub holds_here : None ≡ fault f n i (get_or seen (place x) false) x → Holds (set seen (place x) true) (take (i + 1) xs)
-  holds_here none = subst (λ l. Holds (set seen (place x) true) l) (sym pushed) (holds_more seen (take i xs) x (sound_low f n i (get_or seen (place x) false) x few (sym none)) holds)
+  -- it has no fault, and its pair's flag goes up
+  pub searched_more : {stations' : ℕ} {seen' : List Bool} → None ≡ fault f stations i (get_or seen (place x) false) x → stations' ≡ stations → seen' ≡ set seen (place x) true → Searched f n rs (i + 1) stations' seen'
+  searched_more none same after = record {
+    of_plan = same ∙ so_far.of_plan;
+    table = rw (after, parts.0) (holds_more seen (take i (map first_fields rs)) x (sound_low f stations i (get_or seen (place x) false) x (omega (arith, few, so_far.of_plan)) (sym none)) so_far.table);
+    rest = rw (← none) at split;
+  }
