@@ -1,23 +1,19 @@
 -- Reading and writing undo each other.
-use Rattle.std.proofs.Common.{◌≡◌, ℕ, ◌+◌, ◌<◌, ◌≤◌, Bool, true, List, [], ◌∷◌, ◌++◌, map, length, drop, is_some, is_ok, Some, None, Ok, Err, Option, Result, unwrap_or, sym, refl, ap, ◌∙◌, ap₂, arith, MatchOption}
+use Rattle.std.proofs.Common.{◌≡◌, ℕ, ◌<◌, ◌≤◌, true, List, [], ◌∷◌, ◌++◌, map, length, drop, is_some, is_ok, Some, None, Ok, Err, Option, Result, unwrap_or, sym, refl, ap, ◌∙◌, ap₂, arith, rules, MatchOption}
 use mathlib.Core.Path.{subst⁻¹}
 use Rattle.std.proofs.ByRecursion.{All-weaker}
 use Rattle.std.proofs.lemmas.List.{length-map}
-use Rattle.std.proofs.lemmas.Bool.{false≢true}
-use Rattle.std.proofs.lemmas.Iterator.Adapters.{position_from-zero}
-use Rattle.std.specs.Option.{option_map}
-use Rattle.std.specs.List.{AllByRecursion, position_from}
+use Rattle.std.proofs.lemmas.Bool.Decides.{nat_tests}
+use Rattle.std.specs.List.{AllByRecursion}
 use Rattle.cost.specs.Forms.{Forms}
 use Rattle.cost.specs.Kind.{Kind, FAR}
 use Rattle.cost.specs.declared.link.Link.{Link}
 use Rattle.filekind.specs.Format.{Format, Ranged}
-use Rattle.filekind.specs.Outside.{outside}
 use Rattle.filekind.specs.declared.range.LinkRange.{LinkRange}
 use Rattle.refusal.specs.First.{told}
 use Rattle.refusal.specs.declared.Refusal.{Refusal}
 use Rattle.planfile.specs.Encoding.{encoding, file_of}
-use Rattle.planfile.specs.Faults.{first_fault}
-use Rattle.planfile.specs.Reading.{faulty_record, file_records, links_of, reading_refusal, stations_of, count_of}
+use Rattle.planfile.specs.Reading.{file_records, links_of, reading_refusal, stations_of, count_of}
 use Rattle.planfile.specs.Records.{fields_of, link_of}
 use Rattle.planfile.specs.RoundTrip.{FieldsFit, Holds, ReadsBack, Unambiguous}
 use Rattle.planfile.specs.Sound.{Laid, Sound}
@@ -25,14 +21,14 @@ use Rattle.planfile.specs.Writing.{first_outside}
 use Rattle.planfile.specs.declared.fields.Fields.{Fields}
 use Rattle.planfile.proofs.FileBytes.{count_read_back, encoding_passes, length-encoding, records_read_back, stations_read_back}
 use Rattle.planfile.proofs.HeaderTests.{left_to_records}
-use Rattle.planfile.proofs.Ranges.{inside}
-use Rattle.planfile.proofs.RecordBytes.{length-records_of, same_fields}
+use Rattle.planfile.proofs.RecordBytes.{length-records_of}
 use Rattle.planfile.proofs.Soundness.{laid_from_none, none_from_laid, passes_from_none}
 use Rattle.planfile.proofs.WritingTests.{left_to_costs}
 
+-- what tells of no refusal is an acceptance
 pub ok_from_told : {T : Type 0} (r : Result T Refusal) → told r ≡ None → is_ok r ≡ true
 ok_from_told (Ok x) e = refl
-ok_from_told (Err x) e = let z : ◌≡◌ {A = ℕ} 0 1 = cc in absurd (omega arith)
+ok_from_told (Err x) e = cc
 
 -- what each record of a sound plan has by itself
 pub record InRange (f : Format) (n : ℕ) (x : Fields) : Type 0 where
@@ -41,22 +37,19 @@ pub record InRange (f : Format) (n : ℕ) (x : Fields) : Type 0 where
   pub from : x.from < n
   pub to : x.to < n
 
+-- and so of records that may follow each other
 in_range : (f : Format) (n : ℕ) (earlier xs : List Fields) → Laid f n earlier xs → AllByRecursion (InRange f n) xs
 in_range f n earlier [] laid = tt
-in_range f n earlier (x ∷ xs) laid = (record { low = laid.0.low; high = laid.0.high; from = laid.0.from; to = laid.0.to }, in_range f n (earlier ++ x ∷ []) xs laid.1)
+in_range f n earlier (x ∷ xs) laid = (search rules, in_range f n (earlier ++ x ∷ []) xs laid.1)
 
+-- its numbers fit their places
 fits : (f : Format) (n : ℕ) → f.high < FAR → n ≤ 256 → (x : Fields) → InRange f n x → FieldsFit x
-fits f n far few x h = record { from = omega (arith, h.from); to = omega (arith, h.to); number = omega (arith, h.high) }
+fits f n far few x h = search rules
 
-abbrev out : Format → Fields → Bool
-out f x = outside f.low f.high x.number
-
-none_out : (f : Format) (n k : ℕ) (xs : List Fields) → AllByRecursion (InRange f n) xs → position_from (out f) k xs ≡ None
-none_out f n k [] all = refl
-none_out f n k (x ∷ xs) all = rw (inside f.low f.high x.number all.0.low all.0.high) (none_out f n (k + 1) xs all.1)
-
+-- none of such records has a cost outside the link range
 none_outside : (f : Format) (n : ℕ) (xs : List Fields) → AllByRecursion (InRange f n) xs → first_outside f xs ≡ None
-none_outside f n xs all = ap (option_map _) (position_from-zero (out f) xs ∙ none_out f n 0 xs all)
+none_outside f n [] all = refl
+none_outside f n (x ∷ xs) all = grind (arith, nat_tests, all.0, none_outside f n xs all.1)
 
 -- the encoding of a sound plan is accepted, and read as that plan
 pub accepted : (f : Format) (n : ℕ) (xs : List Fields) (places : ℕ) → f.byte < 256 → f.high < FAR → Sound f n xs → 1 ≤ places → places ≤ 4096 → length xs ≤ places → reading_refusal f places (encoding f n xs) ≡ None
@@ -64,12 +57,12 @@ accepted f n xs places byte far sound some few enough =
     let fit = All-weaker (InRange f n) FieldsFit (fits f n far sound.few) xs (in_range f n [] xs sound.laid) in
     let stations = stations_read_back f n xs (omega (arith, sound.few)) in
     let records = records_read_back f n xs (omega arith) fit in
-    left_to_records f places (encoding f n xs) (encoding_passes f n xs places byte some few sound.some sound.few enough)
-    ∙ ap (option_map faulty_record) (ap₂ (λ k ys. first_fault f k [] ys) stations records ∙ none_from_laid f n [] xs sound.laid)
+    rw (left_to_records f places (encoding f n xs) (encoding_passes f n xs places byte some few sound.some sound.few enough), stations, records, none_from_laid f n [] xs sound.laid)
 
 module _ {K : Type 0} (m : Kind K) (formed : ℕ → Option K) (numbered : Forms m formed) where
+  -- a cost that was formed from a number has it as its rank
   rank_of_formed : (v : ℕ) (o : Option K) → is_some o ≡ true → MatchOption o ((c : K) → m.rank c ≡ v → ⊥) (λ c. m.rank c ≡ v) → m.rank (unwrap_or o m.far) ≡ v
-  rank_of_formed v None some says = absurd (false≢true some)
+  rank_of_formed v None some says = cc
   rank_of_formed v (Some c) some says = says
 
   -- a link read from fields has those fields
@@ -78,7 +71,7 @@ module _ {K : Type 0} (m : Kind K) (formed : ℕ → Option K) (numbered : Forms
   fields_again f r n ranged (x ∷ xs) all =
       let v = x.number in
       let same = rank_of_formed v (formed v) (ranged.forms v all.0.low all.0.high) (numbered v (omega (arith, ranged.far_out, all.0.high))) in
-      λ i. same_fields (fields_of m (link_of m formed x)) x refl refl same i ∷ fields_again f r n ranged xs all.1 i
+      ap₂ (λ k ys. record { from = x.from; to = x.to; number = k } ∷ ys) same (fields_again f r n ranged xs all.1)
 
   -- an accepted file holds the links that are read from it
   pub file_holds : (f : Format) (r : LinkRange) → Ranged m formed f r → (places : ℕ) (bs : List ℕ) → reading_refusal f places bs ≡ None → encoding f (stations_of bs) (file_records bs) ≡ bs → Holds m f (stations_of bs) (links_of m formed bs) bs

@@ -4,7 +4,6 @@ pub mod FileBytes
 pub mod FirstFault
 pub mod FrontLinks
 pub mod HeaderTests
-pub mod Ranges
 pub mod RecordBytes
 pub mod Seen
 pub mod Soundness

@@ -1,33 +1,25 @@
 -- Records and their bytes: the fields of a list's records are those whose bytes the list is.
-use Rattle.std.proofs.Common.{◌≡◌, ℕ, zero, suc, ◌+◌, ◌*◌, ◌<◌, ◌≤◌, List, [], ◌∷◌, ◌++◌, length, take, drop, sym, refl, ap, ◌∙◌, ap₂, ⊎_elim, arith, take-add}
-use Rattle.std.proofs.lemmas.Bool.{cases_lt}
-use Rattle.std.proofs.lemmas.List.{drop-drop, get_or-drop, get_or-take, get_or_past, take-append-drop, take_all, length-drop, length-take, length-take-le, nil_from_length}
+use Rattle.std.proofs.Common.{◌≡◌, ℕ, zero, suc, ◌+◌, ◌*◌, List, [], ◌∷◌, ◌++◌, length, take, drop, sym, refl, ◌∙◌, ap₂, arith, take-add}
+use Rattle.std.proofs.lemmas.Grind.{common_steps}
+use Rattle.std.proofs.lemmas.List.{drop-drop, get_or-drop, take-append-drop, take_all, length-drop, length-take-le, nil_from_length}
 use Rattle.std.specs.List.{flat_map, AllByRecursion}
 use Rattle.planfile.specs.Records.{field_bytes, first_fields, records_of}
 use Rattle.planfile.specs.RoundTrip.{FieldsFit}
 use Rattle.planfile.specs.declared.fields.Fields.{Fields}
 use Rattle.planfile.proofs.Codec.{Small, bytes_of_number, number_of_bytes}
 
-pub same_fields : (x y : Fields) → x.from ≡ y.from → x.to ≡ y.to → x.number ≡ y.number → x ≡ y
-same_fields x y from to number = λ i. record { from = from i; to = to i; number = number i }
-
 -- twelve bytes are those of the fields that they stand for
 bytes_of_first : (bs : List ℕ) → length bs ≡ 12 → Small bs → field_bytes (first_fields bs) ≡ bs
 bytes_of_first bs long small =
     ap₂ ◌++◌ (bytes_of_number 2 bs 0 (omega arith) small) (ap₂ ◌++◌ (bytes_of_number 2 bs 2 (omega arith) small) (bytes_of_number 8 bs 4 (omega arith) small))
-    ∙ ap (λ l. take 2 bs ++ l) (ap (λ l. take 2 (drop 2 bs) ++ take 8 l) (sym (drop-drop 2 2 bs)) ∙ sym (take-add 2 8 (drop 2 bs)))
-    ∙ sym (take-add 2 10 bs)
-    ∙ take_all 12 bs (omega arith)
+    ∙ rw (← drop-drop 2 2 bs, ← take-add 2 8 (drop 2 bs), ← take-add 2 10 bs) (take_all 12 bs (omega arith))
 
+-- a part of bytes is bytes
 pub small_drop : (n : ℕ) (bs : List ℕ) → Small bs → Small (drop n bs)
-small_drop n bs small i = rw (get_or-drop n bs i 0) (small (n + i))
+small_drop n bs small i = rw get_or-drop (small (n + i))
 
 small_take : (n : ℕ) (bs : List ℕ) → Small bs → Small (take n bs)
-small_take n bs small i =
-    ⊎_elim
-    (λ (within : i < n). rw (get_or-take n bs i 0 within) (small i))
-    (λ (past : n ≤ i). rw (get_or_past (take n bs) i 0 (omega (arith, length-take n bs))) (omega arith))
-    (cases_lt i n)
+small_take n bs small i = grind (arith, common_steps, small i)
 
 -- whole records are the bytes of their fields
 pub bytes_of_records : (count : ℕ) (bs : List ℕ) → length bs ≡ 12 * count → Small bs → flat_map field_bytes (records_of count bs) ≡ bs
@@ -36,23 +28,23 @@ bytes_of_records (suc count) bs long small =
     ap₂ ◌++◌ (bytes_of_first (take 12 bs) (length-take-le 12 bs (omega arith)) (small_take 12 bs small)) (bytes_of_records count (drop 12 bs) (simp length-drop (omega arith)) (small_drop 12 bs small))
     ∙ take-append-drop 12 bs
 
+-- the bytes of fields have those fields
 first_of_bytes : (x : Fields) (rest : List ℕ) → FieldsFit x → first_fields (field_bytes x ++ rest) ≡ x
 first_of_bytes x rest fit =
     let bs = field_bytes x ++ rest in
-    same_fields (first_fields bs) x
-    (number_of_bytes 2 x.from bs _ 0 refl fit.from)
-    (number_of_bytes 2 x.to bs _ 2 refl fit.to)
-    (number_of_bytes 8 x.number bs rest 4 refl fit.number)
+    rw (number_of_bytes 2 x.from bs _ 0 refl fit.from, number_of_bytes 2 x.to bs _ 2 refl fit.to, number_of_bytes 8 x.number bs rest 4 refl fit.number)
 
 -- the bytes of records have those records
 pub records_of_bytes : (xs : List Fields) → AllByRecursion FieldsFit xs → records_of (length xs) (flat_map field_bytes xs) ≡ xs
 records_of_bytes [] fit = refl
 records_of_bytes (x ∷ xs) fit = ap₂ ◌∷◌ (first_of_bytes x [] fit.0) (records_of_bytes xs fit.1)
 
+-- a record has twelve bytes
 pub length-records : (xs : List Fields) → length (flat_map field_bytes xs) ≡ 12 * length xs
 length-records [] = refl
-length-records (x ∷ xs) = ap (λ n. suc (suc (suc (suc (suc (suc (suc (suc (suc (suc (suc (suc n)))))))))))) (length-records xs) ∙ omega arith
+length-records (x ∷ xs) = omega (arith, length-records xs)
 
+-- so many records are read as are asked for
 pub length-records_of : (count : ℕ) (bs : List ℕ) → length (records_of count bs) ≡ count
 length-records_of zero bs = refl
-length-records_of (suc count) bs = ap suc (length-records_of count (drop 12 bs))
+length-records_of (suc count) bs = omega (arith, length-records_of count (drop 12 bs))
