@@ -1,16 +1,18 @@
 -- Writing one more element after those written moves the border between the new and the old by one.
-use Rattle.std.proofs.Common.{◌≡◌, ℕ, ◌+◌, ◌<◌, List, [], ◌∷◌, ◌++◌, length, take, drop, set}
-use Rattle.std.proofs.lemmas.List.{append_assoc, drop_at, drop-drop, drop_more, set_at, take_at}
+use Rattle.std.proofs.Common.{◌≡◌, ℕ, ◌+◌, ◌<◌, List, ◌++◌, map, length, get_or, take, drop, set, arith}
+use Rattle.std.proofs.lemmas.List.{append_assoc, drop_at, drop-drop, drop_more, length-append, length-map, length-take, map_more, map_push, set_at, take_at}
 use Rattle.planfile.specs.Fronted.{fronted}
 
--- an element, written at the border
-pub stored_more : {X : Type 0} (new old : List X) (i : ℕ) (y : X) → length new ≡ i → i < length old → set (new ++ drop i old) i y ≡ (new ++ (y ∷ [])) ++ drop (i + 1) old
-stored_more new old i y long within = rw (drop_more old i y within, set_at, append_assoc)
+-- what g and f make of one more element of xs, written at the border
+pub stored_more : {X Y Z : Type 0} (f : Y → Z) (g : X → Y) (xs : List X) (old : List Z) (i : ℕ) (d : X) → length old ≡ length xs → i < length xs → set (map f (map g (take i xs)) ++ drop i old) i (f (g (get_or xs i d))) ≡ map f (map g (take (i + 1) xs)) ++ drop (i + 1) old
+stored_more f g xs old i d long within =
+    let written : length (map f (map g (take i xs))) ≡ i = simp (length-map, length-take) (omega arith) in
+    rw (drop_more old i (f (g (get_or xs i d))) (omega arith), set_at, map_more g xs i d within, map_push, append_assoc)
 
--- the same for a part, pasted after what is written
+-- a part, pasted after what is written
 pub pasted_more : {X : Type 0} (new old part : List X) (i : ℕ) → length new ≡ i → take i (new ++ drop i old) ++ fronted part (drop i (new ++ drop i old)) ≡ (new ++ part) ++ drop (i + length part) old
 pasted_more new old part i long = rw (take_at, drop_at, drop-drop, append_assoc)
 
--- a part after the front of i elements, which has been written
-pub assembled : {X : Type 0} (front part old now : List X) (i k : ℕ) → length front ≡ i → now ≡ front ++ drop i old → (take i now ++ part) ++ drop (i + k) now ≡ (front ++ part) ++ drop (i + k) old
-assembled front part old now i k long is = rw (is, take_at, ← drop-drop k i (front ++ drop i old), drop_at, drop-drop)
+-- a part of k after the front of i elements, which has been written
+pub assembled : {X : Type 0} (front part old : List X) (i k : ℕ) → length front ≡ i → length part ≡ k → (take i (front ++ drop i old) ++ part) ++ drop (i + k) (front ++ drop i old) ≡ fronted (front ++ part) old
+assembled front part old i k long more = rw (length-append front part, long, more, take_at, ← drop-drop k i (front ++ drop i old), drop_at, drop-drop)

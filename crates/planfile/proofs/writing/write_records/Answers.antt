@@ -1,6 +1,6 @@
 -- One more record pasted is one more of the encoding.
-use Rattle.std.proofs.Common.{◌≡◌, ℕ, ◌+◌, ◌*◌, ◌≤◌, List, [], ◌∷◌, ◌++◌, map, length, take, drop, sym, ap, ◌∙◌, ap₂, arith}
-use Rattle.std.proofs.lemmas.List.{flat_map_more, length-append, length-map, length-take-le, map_more}
+use Rattle.std.proofs.Common.{◌≡◌, ℕ, ◌+◌, ◌*◌, ◌<◌, ◌≤◌, List, ◌++◌, map, length, get_or, take, drop, arith}
+use Rattle.std.proofs.lemmas.List.{flat_map_more, length-append, length-map, length-take, map_more}
 use Rattle.std.specs.List.{flat_map}
 use Rattle.cost.specs.Kind.{Kind}
 use Rattle.cost.specs.declared.link.Link.{Link}
@@ -10,28 +10,17 @@ use Rattle.planfile.proofs.RecordBytes.{length-records}
 use Rattle.planfile.proofs.Stored.{pasted_more}
 use Rattle.planfile.proofs.writing.write_records.Goals as goal
 
--- the bytes before record i
-written : {K : Type 0} (m : Kind K) (links : List (Link K)) (old : List ℕ) (i : ℕ) → i ≤ length links → 10 ≤ length old → length (take 10 old ++ flat_map field_bytes (map (fields_of m) (take i links))) ≡ 10 + 12 * i
-written m links old i within room =
-    length-append (take 10 old) (flat_map field_bytes (map (fields_of m) (take i links)))
-    ∙ ap₂ (λ a b. a + b) (length-take-le 10 old room)
-    (length-records (map (fields_of m) (take i links)) ∙ ap (λ n. 12 * n) (length-map (take i links) (fields_of m) ∙ length-take-le i links within))
+-- the bytes of the first i links, after the ten before them
+abbrev begun : {K : Type 0} → Kind K → List (Link K) → List ℕ → ℕ → List ℕ
+begun m links old i = take 10 old ++ flat_map field_bytes (map (fields_of m) (take i links))
+
+-- the record of the link at i, pasted after them
+record_more : {K : Type 0} (m : Kind K) (links : List (Link K)) (old : List ℕ) (i : ℕ) (x : Link K) → 10 ≤ length old → i < length links → x ≡ get_or links i x → take (10 + 12 * i) (begun m links old i ++ drop (10 + 12 * i) old) ++ fronted (field_bytes (fields_of m x)) (drop (10 + 12 * i) (begun m links old i ++ drop (10 + 12 * i) old)) ≡ begun m links old (i + 1) ++ drop (10 + 12 * (i + 1)) old
+record_more m links old i x room within is =
+    let long : length (begun m links old i) ≡ 10 + 12 * i = simp (length-append, length-records, length-map, length-take) (omega arith) in
+    let next : 10 + 12 * (i + 1) ≡ 10 + 12 * i + 12 = omega arith in
+    rw (next, map_more (fields_of m) links i x within, ← is, ← flat_map_more field_bytes (take 10 old) (map (fields_of m) (take i links)) (fields_of m x)) (pasted_more (begun m links old i) old (field_bytes (fields_of m x)) (10 + 12 * i) long)
 
 pub loop-index-preserved : goal.loop-index-preserved
 loop-index-preserved g c =
-    let m = g.K.Cost.kind in
-    let links = c.args.links.now in
-    let old = c.args.buffer.now in
-    let i = c.loop-index.index in
-    let x = c.index-links-index.result in
-    let part = c.into-record.result in
-    let spelled : part ≡ field_bytes (fields_of m x) = c.into-record.ensures ∙ ap field_bytes c.from.ensures in
-    let at = 10 + 12 * i in
-    let new = take 10 old ++ flat_map field_bytes (map (fields_of m) (take i links)) in
-    let twelve : length part ≡ 12 = ap length spelled in
-    let more = ap (λ l. take 10 old ++ flat_map field_bytes l) (map_more (fields_of m) links i x c.loop-index-test.true ∙ ap (λ y. map (fields_of m) (take i links) ++ (fields_of m y ∷ [])) (sym c.index-links-index.is)) in
-    let pushed = ap (λ p. new ++ p) spelled ∙ flat_map_more field_bytes (take 10 old) (map (fields_of m) (take i links)) (fields_of m x) ∙ sym more in
-    c.paste.ensures.after
-    ∙ ap (λ b. take at b ++ fronted part (drop at b)) c.loop-index.invariant
-    ∙ pasted_more new old part at (written m links old i (omega arith) (omega arith))
-    ∙ ap₂ (λ p k. p ++ drop k old) pushed (omega (arith, twelve))
+    rw (c.paste.ensures.after, c.loop-index.invariant, c.into-record.ensures, c.from.ensures) (record_more g.K.Cost.kind c.args.links.now c.args.buffer.now c.loop-index.index c.index-links-index.result (omega arith) c.loop-index-test.true c.index-links-index.is)
