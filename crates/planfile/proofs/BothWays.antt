@@ -34,9 +34,9 @@ in_range : (f : Format) (n : ℕ) (earlier xs : List Fields) → Laid f n earlie
 in_range f n earlier [] laid = tt
 in_range f n earlier (x ∷ xs) laid = (search rules, in_range f n (earlier ++ x ∷ []) xs laid.1)
 
--- its numbers fit their places
-fits : (f : Format) (n : ℕ) → f.high < FAR → n ≤ 256 → (x : Fields) → LinkSound f n [] x → FieldsFit x
-fits f n far few x h = search rules
+-- the numbers of a sound plan fit their places
+all_fit : (f : Format) (n : ℕ) (xs : List Fields) → f.high < FAR → Sound f n xs → AllByRecursion FieldsFit xs
+all_fit f n xs far sound = All-weaker (LinkSound f n []) FieldsFit (λ x link. search rules) xs (in_range f n [] xs sound.laid)
 
 -- none of such records has a cost outside the link range
 none_outside : (f : Format) (n : ℕ) (xs : List Fields) → AllByRecursion (LinkSound f n []) xs → first_outside f xs ≡ None
@@ -46,10 +46,10 @@ none_outside f n (x ∷ xs) all = grind (arith, nat_tests, all.0, none_outside f
 -- the encoding of a sound plan is accepted, and read as that plan
 pub accepted : (f : Format) (n : ℕ) (xs : List Fields) (places : ℕ) → f.byte < 256 → f.high < FAR → Sound f n xs → 1 ≤ places → places ≤ 4096 → length xs ≤ places → reading_refusal f places (encoding f n xs) ≡ None
 accepted f n xs places byte far sound some few enough =
-    let fit = All-weaker (LinkSound f n []) FieldsFit (fits f n far sound.few) xs (in_range f n [] xs sound.laid) in
+    let passes = encoding_passes f n xs places byte some few sound.some sound.few enough in
     let stations = stations_read_back f n xs (omega arith) in
-    let records = records_read_back f n xs (omega arith) fit in
-    rw (left_to_records f places (encoding f n xs) (encoding_passes f n xs places byte some few sound.some sound.few enough), stations, records, none_from_laid f n [] xs sound.laid)
+    let records = records_read_back f n xs (omega arith) (all_fit f n xs far sound) in
+    rw (left_to_records f places (encoding f n xs) passes, stations, records, none_from_laid f n [] xs sound.laid)
 
 module _ {K : Type 0} (m : Kind K) (formed : ℕ → Option K) (numbered : Forms m formed) where
   -- a cost that was formed from a number has it as its rank
@@ -89,13 +89,11 @@ module _ {K : Type 0} (m : Kind K) (formed : ℕ → Option K) (numbered : Forms
   reads_back f r ranged n links sound =
       let xs = map (fields_of m) links in
       let count = length-map links (fields_of m) in
-      let all = in_range f n [] xs sound.laid in
-      let fit = All-weaker (LinkSound f n []) FieldsFit (fits f n ranged.far_out sound.few) xs all in
       record {
         accepted = λ places some up enough. accepted f n xs places ranged.byte_fits ranged.far_out sound some up (omega arith);
         stations = stations_read_back f n xs (omega arith);
         count = count_read_back f n xs (omega arith) ∙ count;
-        same = rw (records_read_back f n xs (omega arith) fit) (fields_again f r n ranged xs all);
+        same = rw (records_read_back f n xs (omega arith) (all_fit f n xs ranged.far_out sound)) (fields_again f r n ranged xs (in_range f n [] xs sound.laid));
       }
 
 -- a plan that fits the format can be told from its encoding

@@ -1,14 +1,16 @@
 -- Whole files: a file whose header passes is the encoding of its counts and records, and an encoding reads back.
-use Rattle.std.proofs.Common.{◌≡◌, ℕ, ◌+◌, ◌*◌, ◌<◌, ◌≤◌, List, ◌++◌, length, take, drop, refl, ap, ◌∙◌, ap₂, arith}
+use Rattle.std.proofs.Common.{◌≡◌, ℕ, ◌+◌, ◌*◌, ◌<◌, ◌≤◌, List, ◌++◌, map, length, take, drop, refl, ap, ◌∙◌, ap₂, arith}
 use Rattle.std.proofs.lemmas.Grind.{common_steps}
-use Rattle.std.proofs.lemmas.List.{take-append-drop, length-drop}
+use Rattle.std.proofs.lemmas.List.{take-append-drop, length-drop, length-map}
 use Rattle.std.specs.List.{flat_map, AllByRecursion}
+use Rattle.cost.specs.Kind.{Kind}
+use Rattle.cost.specs.declared.link.Link.{Link}
 use Rattle.filekind.specs.Format.{Format}
 use Rattle.planfile.specs.Bytes.{bytes}
-use Rattle.planfile.specs.Encoding.{header, encoding}
+use Rattle.planfile.specs.Encoding.{header, encoding, file_of}
 use Rattle.planfile.specs.Header.{Passes}
 use Rattle.planfile.specs.Reading.{file_records, stations_of, count_of}
-use Rattle.planfile.specs.Records.{field_bytes, records_of}
+use Rattle.planfile.specs.Records.{field_bytes, fields_of, records_of}
 use Rattle.planfile.specs.RoundTrip.{FieldsFit}
 use Rattle.planfile.specs.declared.fields.Fields.{Fields}
 use Rattle.planfile.proofs.Codec.{Small, number_of_bytes}
@@ -59,3 +61,7 @@ module _ (f : Format) (n : ℕ) (xs : List Fields) where
         enough_places = omega arith;
         long = omega arith;
       }
+
+-- so long is the file of so many links
+pub length-file : {K : Type 0} (m : Kind K) (f : Format) (n : ℕ) (links : List (Link K)) → length (file_of m f n links) ≡ 10 + 12 * length links
+length-file m f n links = omega (arith, length-encoding f n (map (fields_of m) links), length-map links (fields_of m))
