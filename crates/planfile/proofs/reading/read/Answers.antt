@@ -1,5 +1,5 @@
 -- The encoding of a sound plan is never refused, and an accepted file holds what was read.
-use Rattle.std.proofs.Common.{◌≡◌, length, drop, sym, ◌∙◌}
+use Rattle.std.proofs.Common.{◌≡◌, length, drop, ◌∙◌}
 use Rattle.std.proofs.lemmas.Result.{err_from_is_err_and}
 use Rattle.refusal.specs.First.{told}
 use Rattle.planfile.specs.Reading.{reading_refusal}
@@ -24,4 +24,4 @@ returns-clause-holds g c =
     let list = c.args.list.now in
     let told = c.in_ok-counts.ensures in
     rw (c.store.ensures.after, told.records, told.value, links_first m formed bs (drop (length c.in_ok-counts.records.now) list))
-    (file_holds m formed g.met.K.Cost.numbered g.K.FileKind.format c.new-field.result.range c.new-field.result.ranged (length list) bs (sym told.refused) (rw told.value at told.encoded))
+    (file_holds m formed g.met.K.Cost.numbered g.K.FileKind.format c.new-field.result.range c.new-field.result.ranged (length list) bs (rw (← told.refused)) (rw told.value at told.encoded))

@@ -9,6 +9,3 @@ pub loop-index-preserved : goal.loop-index-preserved
 loop-index-preserved g c =
     let long = length-take-le (length c.args.records.now) c.args.list.now c.requires.room in
     rw (c.loop-index.invariant, c.from-in-loop-index.ensures, c.from.ensures) (stored_more _ _ _ _ _ _ long (omega arith))
-
-pub returns : goal.returns
-returns g c = grind (arith, common_steps)
