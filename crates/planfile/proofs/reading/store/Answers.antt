@@ -1,6 +1,5 @@
 -- One more link written is one more record's, and one less old place.
 use Rattle.std.proofs.Common.{length, arith}
-use Rattle.std.proofs.lemmas.Grind.{common_steps}
 use Rattle.std.proofs.lemmas.List.{length-take-le}
 use Rattle.planfile.proofs.Stored.{stored_more}
 use Rattle.planfile.proofs.reading.store.Goals as goal
