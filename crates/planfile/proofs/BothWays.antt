@@ -1,5 +1,5 @@
 -- Reading and writing undo each other.
-use Rattle.std.proofs.Common.{◌≡◌, ℕ, ◌<◌, ◌≤◌, true, List, [], ◌∷◌, ◌++◌, map, length, drop, is_some, is_ok, Some, None, Ok, Err, Option, Result, unwrap_or, sym, refl, ap, ◌∙◌, ap₂, arith, rules, MatchOption}
+use Rattle.std.proofs.Common.{◌≡◌, ℕ, ◌<◌, ◌≤◌, true, List, [], ◌∷◌, ◌++◌, map, length, drop, is_some, Some, None, Option, unwrap_or, sym, refl, ap, ◌∙◌, ap₂, arith, rules, MatchOption}
 use Rattle.std.proofs.ByRecursion.{All-weaker}
 use Rattle.std.proofs.lemmas.List.{length-map}
 use Rattle.std.proofs.lemmas.Bool.Decides.{nat_tests}
@@ -9,8 +9,6 @@ use Rattle.cost.specs.Kind.{Kind, FAR}
 use Rattle.cost.specs.declared.link.Link.{Link}
 use Rattle.filekind.specs.Format.{Format, Ranged}
 use Rattle.filekind.specs.declared.range.LinkRange.{LinkRange}
-use Rattle.refusal.specs.First.{told}
-use Rattle.refusal.specs.declared.Refusal.{Refusal}
 use Rattle.planfile.specs.Encoding.{encoding, file_of}
 use Rattle.planfile.specs.Reading.{file_records, links_of, reading_refusal, stations_of, count_of}
 use Rattle.planfile.specs.Records.{fields_of, link_of}
@@ -23,11 +21,6 @@ use Rattle.planfile.proofs.HeaderTests.{left_to_records}
 use Rattle.planfile.proofs.RecordBytes.{length-records_of}
 use Rattle.planfile.proofs.Soundness.{laid_from_none, none_from_laid, passes_from_none}
 use Rattle.planfile.proofs.WritingTests.{left_to_costs}
-
--- what tells of no refusal is an acceptance
-pub ok_from_told : {T : Type 0} (r : Result T Refusal) → told r ≡ None → is_ok r ≡ true
-ok_from_told (Ok x) e = refl
-ok_from_told (Err x) e = cc
 
 -- each record of a sound plan is sound by itself
 in_range : (f : Format) (n : ℕ) (earlier xs : List Fields) → Laid f n earlier xs → AllByRecursion (LinkSound f n []) xs

@@ -9,10 +9,6 @@ use Rattle.planfile.specs.Bytes.{bytes, number_at}
 abbrev pub Small : List ℕ → Type 0
 Small bs = (i : ℕ) → get_or bs i 0 < 256
 
--- w bytes have room for some number
-room : (w : ℕ) → 0 < 256 ^ w
-room w = one-le-pow w 256 (omega arith)
-
 -- w bytes stand for a number that has room in them
 pub number_below : (w : ℕ) (bs : List ℕ) (i : ℕ) → Small bs → number_at w bs i < 256 ^ w
 number_below zero bs i small = omega arith
@@ -23,7 +19,7 @@ bytes_low : (w c v : ℕ) → bytes w (c * 256 ^ w + v) ≡ bytes w v
 bytes_low zero c v = refl
 bytes_low (suc w) c v =
     let shifted : c * 256 ^ suc w ≡ c * 256 * 256 ^ w = rw (pow-succ' 256 w, mul_assoc) in
-    rw (shifted, mul-add-div_right (room w) (c * 256) v, mul-add-mod_self_right c 256 (v / 256 ^ w), bytes_low w (c * 256) v)
+    rw (shifted, mul-add-div_right (one-le-pow w 256 (omega arith)) (c * 256) v, mul-add-mod_self_right c 256 (v / 256 ^ w), bytes_low w (c * 256) v)
 
 -- w bytes are those of the number that they stand for
 pub bytes_of_number : (w : ℕ) (bs : List ℕ) (i : ℕ) → i + w ≤ length bs → Small bs → bytes w (number_at w bs i) ≡ take w (drop i bs)
@@ -39,7 +35,7 @@ number_of_low zero v bs rest i e = omega arith
 number_of_low (suc w) v bs rest i e =
     let first = rw (e, add-zero) at (get_or-drop i bs 0 0) in
     let later = sym (rw e at (drop-drop 1 i bs)) in
-    rw (pow-succ' 256 w, mod-mul v {m = 256} (omega arith) (room w), ← first, number_of_low w v bs rest (i + 1) later)
+    rw (pow-succ' 256 w, mod-mul v {m = 256} (omega arith) (one-le-pow w 256 (omega arith)), ← first, number_of_low w v bs rest (i + 1) later)
 
 -- it is v, where v has room in them
 pub number_of_bytes : (w v : ℕ) (bs rest : List ℕ) (i : ℕ) → drop i bs ≡ bytes w v ++ rest → v < 256 ^ w → number_at w bs i ≡ v

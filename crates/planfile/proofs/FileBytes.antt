@@ -1,5 +1,5 @@
 -- Whole files: a file whose header passes is the encoding of its counts and records, and an encoding reads back.
-use Rattle.std.proofs.Common.{◌≡◌, ℕ, ◌+◌, ◌*◌, ◌<◌, ◌≤◌, List, ◌++◌, map, length, take, drop, refl, ap, ◌∙◌, ap₂, arith}
+use Rattle.std.proofs.Common.{◌≡◌, ℕ, ◌+◌, ◌*◌, ◌<◌, ◌≤◌, List, ◌++◌, map, length, take, drop, refl, ap, ◌∙◌, ap₂, arith, rules}
 use Rattle.std.proofs.lemmas.Grind.{common_steps}
 use Rattle.std.proofs.lemmas.List.{take-append-drop, length-drop, length-map}
 use Rattle.std.specs.List.{flat_map, AllByRecursion}
@@ -10,7 +10,7 @@ use Rattle.planfile.specs.Bytes.{bytes}
 use Rattle.planfile.specs.Encoding.{header, encoding, file_of}
 use Rattle.planfile.specs.Header.{Passes}
 use Rattle.planfile.specs.Reading.{file_records, stations_of, count_of}
-use Rattle.planfile.specs.Records.{field_bytes, fields_of, records_of}
+use Rattle.planfile.specs.Records.{field_bytes, fields_of}
 use Rattle.planfile.specs.RoundTrip.{FieldsFit}
 use Rattle.planfile.specs.declared.fields.Fields.{Fields}
 use Rattle.planfile.proofs.Codec.{Small, number_of_bytes}
@@ -37,7 +37,7 @@ module _ (f : Format) (n : ℕ) (xs : List Fields) where
   count_read_back fits = number_of_bytes 2 (length xs) (encoding f n xs) (flat_map field_bytes xs) 8 refl fits
 
   pub records_read_back : length xs < 65536 → AllByRecursion FieldsFit xs → file_records (encoding f n xs) ≡ xs
-  records_read_back fits fit = ap (λ k. records_of k (flat_map field_bytes xs)) (count_read_back fits) ∙ records_of_bytes xs fit
+  records_read_back fits fit = rw (count_read_back fits) (records_of_bytes xs fit)
 
   pub length-encoding : length (encoding f n xs) ≡ 10 + 12 * length xs
   length-encoding = omega (arith, length-records xs)
@@ -47,20 +47,7 @@ module _ (f : Format) (n : ℕ) (xs : List Fields) where
       let stations = stations_read_back (omega arith) in
       let count = count_read_back (omega arith) in
       let long = length-encoding in
-      record {
-        some_places = some;
-        few_places = few;
-        header = omega arith;
-        mark_0 = refl;
-        mark_1 = refl;
-        mark_2 = refl;
-        version = refl;
-        kind = omega arith;
-        some_stations = omega arith;
-        few_stations = omega arith;
-        enough_places = omega arith;
-        long = omega arith;
-      }
+      search rules
 
 -- so long is the file of so many links
 pub length-file : {K : Type 0} (m : Kind K) (f : Format) (n : ℕ) (links : List (Link K)) → length (file_of m f n links) ≡ 10 + 12 * length links

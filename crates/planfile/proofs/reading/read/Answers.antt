@@ -1,9 +1,7 @@
 -- The encoding of a sound plan is never refused, and an accepted file holds what was read.
-use Rattle.std.proofs.Common.{◌≡◌, length, drop, ◌∙◌}
-use Rattle.std.proofs.lemmas.Result.{err_from_is_err_and}
-use Rattle.refusal.specs.First.{told}
+use Rattle.std.proofs.Common.{◌≡◌, length, drop, None}
 use Rattle.planfile.specs.Reading.{reading_refusal}
-use Rattle.planfile.proofs.BothWays.{accepted, file_holds, ok_from_told}
+use Rattle.planfile.proofs.BothWays.{accepted, file_holds}
 use Rattle.planfile.proofs.FrontLinks.{links_first}
 use Rattle.planfile.proofs.reading.read.Goals as goal
 
@@ -12,9 +10,9 @@ returns-in_err-counts-clause-accepts g c =
     let f = g.K.FileKind.format in
     let places = length c.args.list.now in
     let ranged = c.new-field.result.ranged in
-    let p = err_from_is_err_and c.from_residual.result c.from_residual.ensures.1 in
-    let said : told c.from_residual.result ≡ reading_refusal f places c.args.bytes.now = rw (p.1, p.2) c.in_err-counts.ensures.refused in
-    λ n xs sound some few enough e. ok_from_told c.from_residual.result (said ∙ rw (← e) (accepted f n xs places ranged.byte_fits ranged.far_out sound some few enough))
+    λ n xs sound some few enough e.
+    let none : reading_refusal f places c.args.bytes.now ≡ None = rw (← e) (accepted f n xs places ranged.byte_fits ranged.far_out sound some few enough) in
+    cc (c.in_err-counts.ensures.refused)
 
 pub returns-clause-holds : goal.returns-clause-holds
 returns-clause-holds g c =
