@@ -28,20 +28,25 @@ module _ (f : Format) (places : ℕ) (bs : List ℕ) (passes : Passes f places b
       (bytes_of_records (count_of bs) (drop 10 bs) (simp length-drop (omega (arith, passes.long))) (small_drop 10 bs small))
       ∙ take-append-drop 10 bs
 
--- an encoding reads back: its header passes, with n and the records
+-- an encoding reads back
 module _ (f : Format) (n : ℕ) (xs : List Fields) where
+  -- its number of stations
   pub stations_read_back : n < 65536 → stations_of (encoding f n xs) ≡ n
   stations_read_back fits = number_of_bytes 2 n (encoding f n xs) (bytes 2 (length xs) ++ flat_map field_bytes xs) 6 refl fits
 
+  -- its number of records
   pub count_read_back : length xs < 65536 → count_of (encoding f n xs) ≡ length xs
   count_read_back fits = number_of_bytes 2 (length xs) (encoding f n xs) (flat_map field_bytes xs) 8 refl fits
 
+  -- its records
   pub records_read_back : length xs < 65536 → AllByRecursion FieldsFit xs → file_records (encoding f n xs) ≡ xs
   records_read_back fits fit = rw (count_read_back fits) (records_of_bytes xs fit)
 
+  -- so long it is
   pub length-encoding : length (encoding f n xs) ≡ 10 + 12 * length xs
   length-encoding = omega (arith, length-records xs)
 
+  -- its header passes
   pub encoding_passes : (places : ℕ) → f.byte < 256 → 1 ≤ places → places ≤ 4096 → 1 ≤ n → n ≤ 256 → length xs ≤ places → Passes f places (encoding f n xs)
   encoding_passes places byte some few one up fits =
       let stations = stations_read_back (omega arith) in
@@ -49,6 +54,6 @@ module _ (f : Format) (n : ℕ) (xs : List Fields) where
       let long = length-encoding in
       search rules
 
--- so long is the file of so many links
+-- so long is the file of links
 pub length-file : {K : Type 0} (m : Kind K) (f : Format) (n : ℕ) (links : List (Link K)) → length (file_of m f n links) ≡ 10 + 12 * length links
 length-file m f n links = omega (arith, length-encoding f n (map (fields_of m) links), length-map links (fields_of m))

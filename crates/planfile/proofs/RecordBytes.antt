@@ -1,7 +1,7 @@
 -- Records and their bytes: the fields of a list's records are those whose bytes the list is.
-use Rattle.std.proofs.Common.{◌≡◌, ℕ, zero, suc, ◌+◌, ◌*◌, List, [], ◌∷◌, ◌++◌, length, take, drop, sym, refl, ◌∙◌, ap₂, arith, take-add}
+use Rattle.std.proofs.Common.{◌≡◌, ℕ, zero, suc, ◌+◌, ◌*◌, List, [], ◌∷◌, ◌++◌, length, take, drop, sym, refl, ◌∙◌, ap₂, arith}
 use Rattle.std.proofs.lemmas.Grind.{common_steps}
-use Rattle.std.proofs.lemmas.List.{drop-drop, get_or-drop, take-append-drop, take_all, length-drop, length-take-le, nil_from_length}
+use Rattle.std.proofs.lemmas.List.{get_or-drop, take-append-drop, length-drop, length-take-le, nil_from_length}
 use Rattle.std.specs.List.{flat_map, AllByRecursion}
 use Rattle.planfile.specs.Records.{field_bytes, first_fields, records_of}
 use Rattle.planfile.specs.RoundTrip.{FieldsFit}
@@ -12,12 +12,13 @@ use Rattle.planfile.proofs.Codec.{Small, bytes_of_number, number_of_bytes}
 bytes_of_first : (bs : List ℕ) → length bs ≡ 12 → Small bs → field_bytes (first_fields bs) ≡ bs
 bytes_of_first bs long small =
     ap₂ ◌++◌ (bytes_of_number 2 bs 0 (omega arith) small) (ap₂ ◌++◌ (bytes_of_number 2 bs 2 (omega arith) small) (bytes_of_number 8 bs 4 (omega arith) small))
-    ∙ rw (← drop-drop 2 2 bs, ← take-add 2 8 (drop 2 bs), ← take-add 2 10 bs) (take_all 12 bs (omega arith))
+    ∙ grind (arith, common_steps)
 
--- a part of bytes is bytes
+-- bytes without the first n are bytes
 pub small_drop : (n : ℕ) (bs : List ℕ) → Small bs → Small (drop n bs)
 small_drop n bs small i = rw get_or-drop (small (n + i))
 
+-- the first n bytes are bytes
 small_take : (n : ℕ) (bs : List ℕ) → Small bs → Small (take n bs)
 small_take n bs small i = grind (arith, common_steps, small i)
 
