@@ -92,6 +92,6 @@ module _ {K : Type 0} (m : Kind K) (formed : ℕ → Option K) (numbered : Forms
 -- a plan that fits the format can be told from its encoding
 pub unambiguous : (f : Format) → Unambiguous f
 unambiguous f n n' xs xs' fit fit' same = (
-  sym (stations_read_back f n xs fit.stations) ∙ ap stations_of same ∙ stations_read_back f n' xs' fit'.stations,
-  sym (records_read_back f n xs fit.count fit.fields) ∙ ap file_records same ∙ records_read_back f n' xs' fit'.count fit'.fields,
+  cc (stations_read_back f n xs fit.stations, stations_read_back f n' xs' fit'.stations),
+  cc (records_read_back f n xs fit.count fit.fields, records_read_back f n' xs' fit'.count fit'.fields),
 )

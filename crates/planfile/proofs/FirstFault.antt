@@ -1,6 +1,7 @@
 -- The search for the first fault, one record on: the table of pairs stands for the records before.
 use Rattle.std.proofs.Common.{◌≡◌, ℕ, ◌+◌, ◌<◌, ◌≤◌, Bool, true, false, List, [], ◌∷◌, ◌++◌, map, length, get_or, take, drop, set, Some, None, sym, ◌∙◌, arith}
-use Rattle.std.proofs.lemmas.List.{drop_more, take_more, get_or-map, length-map, length-take-le}
+use Rattle.std.proofs.lemmas.Grind.{common_steps}
+use Rattle.std.proofs.lemmas.List.{get_or-map}
 use Rattle.filekind.specs.Format.{Format}
 use Rattle.refusal.specs.declared.Facts.{Facts}
 use Rattle.planfile.specs.Faults.{fault, first_fault, or_else}
@@ -18,11 +19,7 @@ pub record Searched (f : Format) (n : ℕ) (rs : List (List ℕ)) (i stations : 
 module _ {f : Format} {n i stations : ℕ} {rs : List (List ℕ)} {seen : List Bool} {x : Fields} (so_far : Searched f n rs i stations seen) (few : n ≤ 256) (within : i < length rs) (is : x ≡ first_fields (get_or rs i [])) where
   -- it stands between those before it and those after it, and i are before it
   parts : (take (i + 1) (map first_fields rs) ≡ take i (map first_fields rs) ++ x ∷ []) × (drop i (map first_fields rs) ≡ x ∷ drop (i + 1) (map first_fields rs)) × (length (take i (map first_fields rs)) ≡ i)
-  parts =
-      let xs = map first_fields rs in
-      let inside : i < length xs = omega (arith, length-map rs first_fields) in
-      let item : get_or xs i x ≡ x = get_or-map first_fields rs i [] x within ∙ sym is in
-      (rw (take_more xs i x inside, item), rw (drop_more xs i x inside, item), length-take-le i xs (omega arith))
+  parts = grind (arith, common_steps, get_or-map first_fields rs i [] x within)
 
   -- its fault comes before those of the records after it
   split : or_else (fault f stations i (get_or seen (place x) false) x) (first_fault f n (take (i + 1) (map first_fields rs)) (drop (i + 1) (map first_fields rs))) ≡ first_fault f n [] (map first_fields rs)

@@ -23,7 +23,7 @@ none_of_mapped g (Some x) e = cc
 
 -- a file that is not refused passes each test, and its records have no fault
 pub passes_from_none : (f : Format) (places : ℕ) (bs : List ℕ) → reading_refusal f places bs ≡ None → Passes f places bs × (first_fault f (stations_of bs) [] (file_records bs) ≡ None)
-passes_from_none f places bs e = (grind (arith, nat_tests, not_refused), grind (arith, nat_tests, none_of_mapped faulty_record))
+passes_from_none f places bs e = grind (arith, nat_tests, not_refused, none_of_mapped faulty_record)
 
 -- a record whose pair is not repeated differs from each of those before it
 differs_from_none : (earlier : List Fields) (x : Fields) → repeats earlier x ≡ false → AllByRecursion (λ y. Differs y x) earlier
