@@ -1,5 +1,5 @@
 -- Reading and writing undo each other.
-use Rattle.std.proofs.Common.{◌≡◌, ℕ, ◌<◌, ◌≤◌, true, List, [], ◌∷◌, ◌++◌, map, length, drop, is_some, Some, None, Option, unwrap_or, sym, refl, ap, ◌∙◌, ap₂, arith, rules, MatchOption}
+use Rattle.std.proofs.Common.{◌≡◌, ℕ, ◌<◌, ◌≤◌, List, [], ◌∷◌, ◌++◌, map, length, drop, None, Option, sym, refl, ap, ◌∙◌, ap₂, arith, rules}
 use Rattle.std.proofs.ByRecursion.{All-weaker}
 use Rattle.std.proofs.lemmas.List.{length-map}
 use Rattle.std.proofs.lemmas.Bool.Decides.{nat_tests}
@@ -45,18 +45,10 @@ accepted f n xs places byte far sound some few enough =
     rw (left_to_records f places (encoding f n xs) passes, stations, records, none_from_laid f n [] xs sound.laid)
 
 module _ {K : Type 0} (m : Kind K) (formed : ℕ → Option K) (numbered : Forms m formed) where
-  -- a cost that was formed from a number has it as its rank
-  rank_of_formed : (v : ℕ) (o : Option K) → is_some o ≡ true → MatchOption o ((c : K) → m.rank c ≡ v → ⊥) (λ c. m.rank c ≡ v) → m.rank (unwrap_or o m.far) ≡ v
-  rank_of_formed v None some says = cc
-  rank_of_formed v (Some c) some says = says
-
   -- a link read from fields has those fields
   fields_again : (f : Format) (r : LinkRange) (n : ℕ) → Ranged m formed f r → (xs : List Fields) → AllByRecursion (LinkSound f n []) xs → map (fields_of m) (map (link_of m formed) xs) ≡ xs
   fields_again f r n ranged [] all = refl
-  fields_again f r n ranged (x ∷ xs) all =
-      let v = x.number in
-      let same = rank_of_formed v (formed v) (ranged.forms v all.0.low all.0.high) (numbered v (omega (arith, all.0))) in
-      ap₂ (λ k ys. record { from = x.from; to = x.to; number = k } ∷ ys) same (fields_again f r n ranged xs all.1)
+  fields_again f r n ranged (x ∷ xs) all = ap₂ ◌∷◌ (grind (arith, all.0, ranged.forms x.number, numbered x.number)) (fields_again f r n ranged xs all.1)
 
   -- an accepted file holds the links that are read from it
   pub file_holds : (f : Format) (r : LinkRange) → Ranged m formed f r → (places : ℕ) (bs : List ℕ) → reading_refusal f places bs ≡ None → encoding f (stations_of bs) (file_records bs) ≡ bs → Holds m f (stations_of bs) (links_of m formed bs) bs

@@ -1,13 +1,13 @@
 -- Whole files: a file whose header passes is the encoding of its counts and records, and an encoding reads back.
-use Rattle.std.proofs.Common.{◌≡◌, ℕ, ◌+◌, ◌*◌, ◌<◌, ◌≤◌, List, ◌++◌, map, length, take, drop, refl, ap, ◌∙◌, ap₂, arith, rules}
+use Rattle.std.proofs.Common.{◌≡◌, ℕ, ◌+◌, ◌*◌, ◌<◌, ◌≤◌, List, ◌++◌, map, length, drop, refl, arith, rules}
 use Rattle.std.proofs.lemmas.Grind.{common_steps}
-use Rattle.std.proofs.lemmas.List.{take-append-drop, length-drop, length-map}
+use Rattle.std.proofs.lemmas.List.{length-drop, length-map}
 use Rattle.std.specs.List.{flat_map, AllByRecursion}
 use Rattle.cost.specs.Kind.{Kind}
 use Rattle.cost.specs.declared.link.Link.{Link}
 use Rattle.filekind.specs.Format.{Format}
 use Rattle.planfile.specs.Bytes.{bytes}
-use Rattle.planfile.specs.Encoding.{header, encoding, file_of}
+use Rattle.planfile.specs.Encoding.{encoding, file_of}
 use Rattle.planfile.specs.Header.{Passes}
 use Rattle.planfile.specs.Reading.{file_records, stations_of, count_of}
 use Rattle.planfile.specs.Records.{field_bytes, fields_of}
@@ -16,17 +16,12 @@ use Rattle.planfile.specs.declared.fields.Fields.{Fields}
 use Rattle.planfile.proofs.Codec.{Small, number_of_bytes}
 use Rattle.planfile.proofs.RecordBytes.{bytes_of_records, records_of_bytes, length-records, length-records_of, small_drop}
 
-module _ (f : Format) (places : ℕ) (bs : List ℕ) (passes : Passes f places bs) (small : Small bs) where
-  -- the ten bytes of a header that passes
-  header_bytes : header f (stations_of bs) (count_of bs) ≡ take 10 bs
-  header_bytes = grind (arith, common_steps, small 5, small 6, small 7, small 8, small 9)
-
-  -- the whole file
-  pub file_is_encoding : encoding f (stations_of bs) (file_records bs) ≡ bs
-  file_is_encoding =
-      ap₂ ◌++◌ (ap (header f (stations_of bs)) (length-records_of (count_of bs) (drop 10 bs)) ∙ header_bytes)
-      (bytes_of_records (count_of bs) (drop 10 bs) (simp length-drop (omega (arith, passes.long))) (small_drop 10 bs small))
-      ∙ take-append-drop 10 bs
+-- a file whose header passes is the encoding of what it holds
+pub file_is_encoding : (f : Format) (places : ℕ) (bs : List ℕ) → Passes f places bs → Small bs → encoding f (stations_of bs) (file_records bs) ≡ bs
+file_is_encoding f places bs passes small =
+    let counted = length-records_of (count_of bs) (drop 10 bs) in
+    let records = bytes_of_records (count_of bs) (drop 10 bs) (simp length-drop (omega arith)) (small_drop 10 bs small) in
+    grind (arith, common_steps, small 5, small 6, small 7, small 8, small 9)
 
 -- an encoding reads back
 module _ (f : Format) (n : ℕ) (xs : List Fields) where

@@ -34,10 +34,7 @@ repeats-push earlier y x = or_push (λ ys. repeats ys x) (λ z. eqb z.from x.fro
 
 -- the flag of one more record's pair goes up
 pub holds_more : (seen : List Bool) (earlier : List Fields) (y : Fields) → Low y → Holds seen earlier → Holds (set seen (place y) true) (earlier ++ y ∷ [])
-holds_more seen earlier y low holds = record {
-  long = grind (arith, common_steps);
-  tells_of = λ x low_x. grind (arith, nat_tests, common_steps, repeats-push earlier y x, holds.tells_of x low_x);
-}
+holds_more seen earlier y low holds = grind (arith, nat_tests, common_steps, repeats-push earlier y)
 
 -- the table's word serves as well as the earlier records'
 pub fault_seen : (f : Format) (n k : ℕ) (seen : List Bool) (earlier : List Fields) (x : Fields) → n ≤ 256 → Holds seen earlier → fault f n k (get_or seen (place x) false) x ≡ fault f n k (repeats earlier x) x
