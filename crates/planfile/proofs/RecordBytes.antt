@@ -30,15 +30,15 @@ bytes_of_records (suc count) bs long small =
     ∙ take-append-drop 12 bs
 
 -- the bytes of fields have those fields
-first_of_bytes : (x : Fields) (rest : List ℕ) → FieldsFit x → first_fields (field_bytes x ++ rest) ≡ x
-first_of_bytes x rest fit =
-    let bs = field_bytes x ++ rest in
-    rw (number_of_bytes 2 x.from bs _ 0 refl fit.from, number_of_bytes 2 x.to bs _ 2 refl fit.to, number_of_bytes 8 x.number bs rest 4 refl fit.number)
+first_of_bytes : (x : Fields) → FieldsFit x → first_fields (field_bytes x) ≡ x
+first_of_bytes x fit =
+    let bs = field_bytes x in
+    rw (number_of_bytes 2 x.from bs _ 0 refl fit.from, number_of_bytes 2 x.to bs _ 2 refl fit.to, number_of_bytes 8 x.number bs [] 4 refl fit.number)
 
 -- the bytes of records have those records
 pub records_of_bytes : (xs : List Fields) → AllByRecursion FieldsFit xs → records_of (length xs) (flat_map field_bytes xs) ≡ xs
 records_of_bytes [] fit = refl
-records_of_bytes (x ∷ xs) fit = ap₂ ◌∷◌ (first_of_bytes x [] fit.0) (records_of_bytes xs fit.1)
+records_of_bytes (x ∷ xs) fit = ap₂ ◌∷◌ (first_of_bytes x fit.0) (records_of_bytes xs fit.1)
 
 -- a record has twelve bytes
 pub length-records : (xs : List Fields) → length (flat_map field_bytes xs) ≡ 12 * length xs
