@@ -68,6 +68,7 @@ fn check_records<K: FileKind>(
 }
 
 // Puts the links of the records at the start of the list.
+#[tactic(auto, using(crate::proofs::Stored::stored_more))]
 fn store<K: FileKind>(records: &[[u8; 12]], list: &mut [Link<K>])
     requires room { length records.now ≤ length list.old }
     ensures after { list.new ≡ map (link_of K.Cost.kind K.Cost.formed) (map first_fields records.now) ++ drop (length records.now) list.old }
