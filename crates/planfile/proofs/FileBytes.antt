@@ -16,12 +16,13 @@ use Rattle.planfile.specs.declared.fields.Fields.{Fields}
 use Rattle.planfile.proofs.Codec.{Small, number_of_bytes}
 use Rattle.planfile.proofs.RecordBytes.{bytes_of_records, records_of_bytes, length-records, length-records_of, small_drop}
 
--- a file whose header passes is the encoding of what it holds
-pub file_is_encoding : (f : Format) (places : ℕ) (bs : List ℕ) → Passes f places bs → Small bs → encoding f (stations_of bs) (file_records bs) ≡ bs
-file_is_encoding f places bs passes small =
-    let counted = length-records_of (count_of bs) (drop 10 bs) in
-    let records = bytes_of_records (count_of bs) (drop 10 bs) (simp length-drop (omega arith)) (small_drop 10 bs small) in
-    grind (arith, common_steps, small 5, small 6, small 7, small 8, small 9)
+module _ (f : Format) (places : ℕ) (bs : List ℕ) (passes : Passes f places bs) (small : Small bs) where
+  -- a file whose header passes is the encoding of what it holds
+  pub file_is_encoding : encoding f (stations_of bs) (file_records bs) ≡ bs
+  file_is_encoding =
+      let counted = length-records_of (count_of bs) (drop 10 bs) in
+      let records = bytes_of_records (count_of bs) (drop 10 bs) (simp length-drop (omega (arith, passes.long))) (small_drop 10 bs small) in
+      grind (arith, common_steps, small 5, small 6, small 7, small 8, small 9)
 
 -- an encoding reads back
 module _ (f : Format) (n : ℕ) (xs : List Fields) where
