@@ -38,12 +38,7 @@ pub fn answer<K: FileKind>(heap: Global, call: &Call) -> Result<String, AllocErr
             stations,
             room,
             links,
-        } => {
-            let mut buffer = vec![in heap; OLD; *room]?;
-            let answer = told(heap, write_out::<K>(heap, *stations, links, &mut buffer))?;
-            let held = hex::encode(heap, buffer.as_slice())?;
-            format!(in heap; "{answer} {held}")
-        }
+        } => told(heap, write_out::<K>(heap, *stations, *room, links)),
         Call::Form { number } => told(heap, form::<K>(heap, *number)),
     }
 }
@@ -83,16 +78,21 @@ fn read_back<K: FileKind>(heap: Global, places: usize, bytes: &[u8]) -> Result<S
     Ok(format!(in heap; "ok {counts} {same}")?)
 }
 
-// Writes links into a buffer, and says how long their file is.
+// Writes links into a buffer of so many bytes, and says how long their file is and what the buffer then holds.
 fn write_out<K: FileKind>(
     heap: Global,
     stations: u16,
+    room: usize,
     links: &[Fields],
-    buffer: &mut [u8],
 ) -> Result<String, Stop> {
     let links: Vec<Link<K>> = links.iter().map(|x| link(*x)).try_collect(heap)?;
-    let len = write::<K>(stations, &links, buffer)?;
-    Ok(format!(in heap; "ok {len}")?)
+    let mut buffer = vec![in heap; OLD; room]?;
+    let answer = match write::<K>(stations, &links, &mut buffer) {
+        Ok(len) => format!(in heap; "ok {len}")?,
+        Err(refusal) => refused(heap, refusal)?,
+    };
+    let held = hex::encode(heap, buffer.as_slice())?;
+    Ok(format!(in heap; "{answer} {held}")?)
 }
 
 // The link of three numbers.
