@@ -13,7 +13,7 @@ use Rattle.planfile.specs.Encoding.{encoding, file_of}
 use Rattle.planfile.specs.Reading.{file_records, links_of, reading_refusal, stations_of, count_of}
 use Rattle.planfile.specs.Records.{fields_of, link_of}
 use Rattle.planfile.specs.RoundTrip.{FieldsFit, Holds, ReadsBack, Unambiguous}
-use Rattle.planfile.specs.Sound.{Laid, LinkSound, Sound}
+use Rattle.planfile.specs.Sound.{Laid, Sound}
 use Rattle.planfile.specs.Writing.{first_outside}
 use Rattle.planfile.specs.declared.fields.Fields.{Fields}
 use Rattle.planfile.proofs.FileBytes.{count_read_back, encoding_passes, records_read_back, stations_read_back}
@@ -22,17 +22,23 @@ use Rattle.planfile.proofs.RecordBytes.{length-records_of}
 use Rattle.planfile.proofs.Soundness.{laid_from_none, none_from_laid, passes_from_none}
 use Rattle.planfile.proofs.WritingTests.{left_to_costs}
 
--- each record of a sound plan is sound by itself
-in_range : (f : Format) (n : ℕ) (earlier xs : List Fields) → Laid f n earlier xs → AllByRecursion (LinkSound f n []) xs
+-- what each record of a sound plan has by itself
+pub record InRange (f : Format) (n : ℕ) (x : Fields) : Type 0 where
+  pub low : f.low ≤ x.number
+  pub high : x.number ≤ f.high
+  pub from : x.from < n
+  pub to : x.to < n
+
+in_range : (f : Format) (n : ℕ) (earlier xs : List Fields) → Laid f n earlier xs → AllByRecursion (InRange f n) xs
 in_range f n earlier [] laid = tt
 in_range f n earlier (x ∷ xs) laid = (search rules, in_range f n (earlier ++ x ∷ []) xs laid.1)
 
 -- the numbers of a sound plan fit their places
 all_fit : (f : Format) (n : ℕ) (xs : List Fields) → f.high < FAR → Sound f n xs → AllByRecursion FieldsFit xs
-all_fit f n xs far sound = All-weaker (LinkSound f n []) FieldsFit (λ x link. search rules) xs (in_range f n [] xs sound.laid)
+all_fit f n xs far sound = All-weaker (InRange f n) FieldsFit (λ x link. search rules) xs (in_range f n [] xs sound.laid)
 
 -- none of such records has a cost outside the link range
-none_outside : (f : Format) (n : ℕ) (xs : List Fields) → AllByRecursion (LinkSound f n []) xs → first_outside f xs ≡ None
+none_outside : (f : Format) (n : ℕ) (xs : List Fields) → AllByRecursion (InRange f n) xs → first_outside f xs ≡ None
 none_outside f n [] all = refl
 none_outside f n (x ∷ xs) all = grind (arith, nat_tests, all.0, none_outside f n xs all.1)
 
@@ -46,7 +52,7 @@ accepted f n xs places byte far sound some few enough =
 
 module _ {K : Type 0} (m : Kind K) (formed : ℕ → Option K) (numbered : Forms m formed) where
   -- a link read from fields has those fields
-  fields_again : (f : Format) (r : LinkRange) (n : ℕ) → Ranged m formed f r → (xs : List Fields) → AllByRecursion (LinkSound f n []) xs → map (fields_of m) (map (link_of m formed) xs) ≡ xs
+  fields_again : (f : Format) (r : LinkRange) (n : ℕ) → Ranged m formed f r → (xs : List Fields) → AllByRecursion (InRange f n) xs → map (fields_of m) (map (link_of m formed) xs) ≡ xs
   fields_again f r n ranged [] all = refl
   fields_again f r n ranged (x ∷ xs) all = ap₂ ◌∷◌ (grind (arith, all.0, ranged.forms x.number, numbered x.number)) (fields_again f r n ranged xs all.1)
 

@@ -22,7 +22,7 @@ impl Queue for Shelf {
     }
 
     fn reset(&mut self, stations: u16) -> Result<(), Refusal> {
-        if stations == 0 || stations > 256 {
+        if !(1..=256).contains(&stations) {
             return Err(Refusal::StationCount);
         }
         self.ranks.fill(None);
