@@ -84,7 +84,7 @@ fn links_listed(heap: Global, text: &str) -> Result<Vec<Fields>> {
 
 // The numbers of a link such as `0-1-7`.
 fn link_numbers(text: &str) -> Result<Fields> {
-    let mut words = text.splitn(3, '-');
+    let mut words = text.split('-');
     let (Some(from), Some(to), Some(number)) = (words.next(), words.next(), words.next()) else {
         bail!("no link: {text}");
     };

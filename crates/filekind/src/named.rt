@@ -1,4 +1,4 @@
-// The delivered file kinds by name, for what learns its kind only from a file.
+// The delivered file kinds by name, for what learns the kind as it runs.
 ghost use Rattle.std.specs.Prelude.{◌≡◌};
 ghost use Rattle.filekind.specs.Named.{Names, kind_of};
 

@@ -1,5 +1,5 @@
 -- Reading and writing undo each other.
-use Rattle.std.proofs.Common.{◌≡◌, ℕ, ◌<◌, ◌≤◌, List, [], ◌∷◌, ◌++◌, map, length, drop, None, Option, sym, refl, ap, ◌∙◌, ap₂, arith, rules}
+use Rattle.std.proofs.Common.{◌≡◌, ℕ, ◌+◌, ◌<◌, ◌≤◌, List, [], ◌∷◌, ◌++◌, map, length, drop, None, Option, sym, refl, ap, ◌∙◌, ap₂, arith, rules}
 use Rattle.std.proofs.ByRecursion.{All-weaker}
 use Rattle.std.proofs.lemmas.List.{length-map}
 use Rattle.std.proofs.lemmas.Bool.Decides.{nat_tests}
@@ -38,9 +38,9 @@ all_fit : (f : Format) (n : ℕ) (xs : List Fields) → f.high < FAR → Sound f
 all_fit f n xs far sound = All-weaker (InRange f n) FieldsFit (λ x link. search rules) xs (in_range f n [] xs sound.laid)
 
 -- none of such records has a cost outside the link range
-none_outside : (f : Format) (n : ℕ) (xs : List Fields) → AllByRecursion (InRange f n) xs → first_outside f xs ≡ None
-none_outside f n [] all = refl
-none_outside f n (x ∷ xs) all = grind (arith, nat_tests, all.0, none_outside f n xs all.1)
+none_outside : (f : Format) (n k : ℕ) (xs : List Fields) → AllByRecursion (InRange f n) xs → first_outside f k xs ≡ None
+none_outside f n k [] all = refl
+none_outside f n k (x ∷ xs) all = grind (arith, nat_tests, all.0, none_outside f n (k + 1) xs all.1)
 
 -- the encoding of a sound plan is accepted, and read as that plan
 pub accepted : (f : Format) (n : ℕ) (xs : List Fields) (places : ℕ) → f.byte < 256 → f.high < FAR → Sound f n xs → 1 ≤ places → places ≤ 4096 → length xs ≤ places → reading_refusal f places (encoding f n xs) ≡ None
@@ -72,7 +72,7 @@ module _ {K : Type 0} (m : Kind K) (formed : ℕ → Option K) (numbered : Forms
       record {
         encoded = rw again whole;
         sound = rw again (record { some = passes.some_stations; few = passes.few_stations; short = omega arith; laid = laid });
-        writable = λ room enough. sym (left_to_costs m f n links room passes.some_stations passes.few_stations (omega arith) (omega arith)) ∙ ap (first_outside f) again ∙ none_outside f n xs all;
+        writable = λ room enough. sym (left_to_costs m f n links room passes.some_stations passes.few_stations (omega arith) (omega arith)) ∙ ap (first_outside f 0) again ∙ none_outside f n 0 xs all;
       }
 
   -- the encoding of a sound plan reads back

@@ -1,9 +1,8 @@
 -- The table of pairs tells of each pair whether it stood in an earlier record.
-use Rattle.std.proofs.Common.{◌≡◌, ℕ, ◌+◌, ◌*◌, ◌<◌, ◌≤◌, Bool, true, false, ◌&&◌, ◌||◌, eqb, List, [], ◌∷◌, ◌++◌, length, get_or, set, replicate, None, refl, arith}
+use Rattle.std.proofs.Common.{◌≡◌, ℕ, zero, suc, ◌+◌, ◌*◌, ◌<◌, ◌≤◌, Bool, true, false, ◌&&◌, ◌||◌, eqb, List, [], ◌∷◌, ◌++◌, length, get_or, set, replicate, None, refl, arith}
 use lib.ListN.{length-replicate}
 use Rattle.std.proofs.lemmas.Bool.Decides.{nat_tests}
 use Rattle.std.proofs.lemmas.Grind.{common_steps}
-use Rattle.std.proofs.lemmas.List.{get_or-replicate}
 use Rattle.std.proofs.lemmas.List.Recursion.{or_push}
 use Rattle.filekind.specs.Format.{Format}
 use Rattle.planfile.specs.Faults.{fault, repeats}
@@ -21,11 +20,17 @@ pub record Holds (seen : List Bool) (earlier : List Fields) : Type 0 where
   pub long : length seen ≡ 65536
   pub tells_of : (x : Fields) → Low x → get_or seen (place x) false ≡ repeats earlier x
 
+-- a list of unset flags has no flag set, at any place
+replicate-unset : (n s : ℕ) → get_or (replicate n false) s false ≡ false
+replicate-unset zero s = refl
+replicate-unset (suc n) zero = refl
+replicate-unset (suc n) (suc s) = replicate-unset n s
+
 -- a table of flags that are all down
 pub none_seen : (seen : List Bool) → seen ≡ replicate 65536 false → Holds seen []
 none_seen seen down = record {
   long = rw down (length-replicate 65536 false);
-  tells_of = λ x low. rw down (get_or-replicate 65536 (place x) false false (omega (arith, low)));
+  tells_of = λ x low. rw down (replicate-unset 65536 (place x));
 }
 
 -- one more record repeats its own pair

@@ -1,10 +1,16 @@
 // The field layer: the cost of a link from its number.
-ghost use Rattle.std.specs.Prelude.{◌≡◌, IfOk, if◌then◌else◌, Some, None};
+ghost use Rattle.std.specs.Prelude.{◌≡◌, ◌<◌, ◌≤◌, map, length, IfOk, IfSome, if◌then◌else◌, Some, None};
+ghost use Rattle.std.specs.List.{position_from};
 ghost use Rattle.std.specs.Result.{result_err};
 ghost use Rattle.std.specs.Option.{unwrap_or};
 ghost use Rattle.filekind.specs.Format.{Ranged};
 ghost use Rattle.filekind.specs.Outside.{outside};
+ghost use Rattle.refusal.specs.First.{field_told};
+ghost use Rattle.planfile.specs.Records.{fields_of};
+ghost use Rattle.planfile.specs.Writing.{first_outside};
 
+use super::fields::Fields;
+use cost::Link;
 use filekind::{FileKind, LinkRange};
 use refusal::FieldFault;
 use std::marker::PhantomData;
@@ -42,5 +48,29 @@ impl<K: FileKind> CostField<K> {
             return Err(FieldFault { index });
         }
         K::form(number).map_err(|_| FieldFault { index })
+    }
+
+    // The first link whose cost is outside the link range is a fault of its record.
+    pub(crate) fn check_all(&self, links: &[Link<K>]) -> Result<(), FieldFault>
+        requires { length links.now ≤ 4096 }
+        ensures refused { field_told result ≡ first_outside K.FileKind.format 0 (map (fields_of K.Cost.kind) links.now) }
+    {
+        match self.first_outside(links) {
+            Some(index) => Err(FieldFault {
+                index: index as u16,
+            }),
+            None => Ok(()),
+        }
+    }
+
+    // The place of the first link whose cost is outside the link range.
+    fn first_outside(&self, links: &[Link<K>]) -> Option<usize>
+        ensures first { result ≡ position_from (λ x. outside K.FileKind.format.low K.FileKind.format.high x.number) 0 (map (fields_of K.Cost.kind) links.now) }
+        ensures bound { IfSome result (λ k. k < length links.now) }
+    {
+        links
+            .iter()
+            .map(|link| Fields::from(*link))
+            .position(|fields| self.excludes(fields.number))
     }
 }

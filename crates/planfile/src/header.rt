@@ -27,7 +27,7 @@ pub(crate) fn read_header<'a, K: FileKind>(
     let [c, p, l, v1, v0, kind, n1, n0, k1, k0, records @ ..] = bytes else {
         return Err(Refusal::ShortHeader);
     };
-    if *c != b'C' || *p != b'P' || *l != b'L' {
+    if [*c, *p, *l] != *b"CPL" {
         return Err(Refusal::Mark);
     }
     if u16::from_be_bytes([*v1, *v0]) != 1 {

@@ -1,20 +1,19 @@
 // The file layer, writing: a header, then a record for each link, into a buffer.
 ghost use Rattle.std.specs.Prelude.{◌≡◌, ◌+◌, ◌*◌, ◌≤◌, ◌<◌, ◌++◌, map, length, take, drop, is_ok, IfOk, IfSome, if◌then◌else◌};
-ghost use Rattle.std.specs.List.{flat_map, position};
-ghost use Rattle.filekind.specs.Outside.{outside};
-ghost use Rattle.refusal.specs.First.{field_told, told};
+ghost use Rattle.std.specs.List.{flat_map};
+ghost use Rattle.refusal.specs.First.{told};
 ghost use Rattle.planfile.specs.Encoding.{file_of, header};
 ghost use Rattle.planfile.specs.Fronted.{fronted};
 ghost use Rattle.planfile.specs.Records.{field_bytes, fields_of};
 ghost use Rattle.planfile.specs.RoundTrip.{ReadsBack, Unambiguous};
 ghost use Rattle.planfile.specs.Sound.{Sound};
-ghost use Rattle.planfile.specs.Writing.{first_outside, writing_refusal};
+ghost use Rattle.planfile.specs.Writing.{writing_refusal};
 
 use super::field::CostField;
 use super::fields::Fields;
 use cost::Link;
 use filekind::FileKind;
-use refusal::{FieldFault, Refusal};
+use refusal::Refusal;
 
 // Writes the plan's file at the start of the buffer, and answers its length.
 pub fn write<K: FileKind>(
@@ -33,30 +32,6 @@ pub fn write<K: FileKind>(
     paste(buffer, 0, &header_bytes::<K>(stations, links.len() as u16));
     write_records(links, buffer);
     Ok(len)
-}
-
-// The first link whose cost is outside the link range is a fault of its record.
-fn check_costs<K: FileKind>(field: &CostField<K>, links: &[Link<K>]) -> Result<(), FieldFault>
-    requires few { length links.now ≤ 4096 }
-    ensures refused { field_told result ≡ first_outside K.FileKind.format (map (fields_of K.Cost.kind) links.now) }
-{
-    match first_outside(field, links) {
-        Some(index) => Err(FieldFault {
-            index: index as u16,
-        }),
-        None => Ok(()),
-    }
-}
-
-// The place of the first link whose cost is outside the link range.
-fn first_outside<K: FileKind>(field: &CostField<K>, links: &[Link<K>]) -> Option<usize>
-    ensures first { result ≡ position (λ x. outside K.FileKind.format.low K.FileKind.format.high x.number) (map (fields_of K.Cost.kind) links.now) }
-    ensures bound { IfSome result (λ k. k < length links.now) }
-{
-    links
-        .iter()
-        .map(|link| Fields::from(*link))
-        .position(|fields| field.excludes(fields.number))
 }
 
 // The length of the plan's file, or the first refusal that fits a buffer of so many bytes.
@@ -79,7 +54,7 @@ fn measure<K: FileKind>(
     if room < len {
         return Err(Refusal::ShortBuffer);
     }
-    check_costs(field, links)?;
+    field.check_all(links)?;
     Ok(len)
 }
 

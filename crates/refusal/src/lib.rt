@@ -94,7 +94,7 @@ impl From<FieldFault> for Refusal {
     }
 }
 
-// The record, the number and the layer of the fault, as a refused file tells them.
+// The record, the number and the layer of the fault.
 impl From<RecordFault> for Facts {
     ghost from_gives = { λ f r. r ≡ fault_code f };
 
@@ -124,6 +124,15 @@ impl From<RecordFault> for Facts {
     }
 }
 
+impl RecordFault {
+    // The record, the number and the layer of the fault, as a refused file tells them.
+    pub fn facts(self) -> Facts
+        ensures value { result ≡ fault_code self }
+    {
+        self.into()
+    }
+}
+
 impl Refusal {
     // The refusal's number and facts, from which it can be told.
     pub fn code(self) -> Code
@@ -148,7 +157,7 @@ impl Refusal {
             },
             Refusal::Record(below) => Code {
                 number: 22,
-                facts: Facts::from(below),
+                facts: below.facts(),
             },
         }
     }
