@@ -10,7 +10,7 @@ use planfile::{Counts, read};
 use refusal::Code;
 use std::alloc::{AllocError, Global};
 
-// A line for the counts, then one for each link.
+// A line for the counts as the file tells them, then one for each link: a `for`, since its body allocates.
 fn plan_lines<K: FileKind>(
     heap: Global,
     counts: Counts,

@@ -6,7 +6,7 @@ ghost use Rattle.std.proofs.Common.{rules};
 use super::kind::Cost;
 use refusal::Refusal;
 
-// A number of outlets; the greatest number is FAR, and so is a stored 0, which is no number of outlets.
+// A number of outlets; the greatest number is FAR, and so is a stored 0, which is no number of outlets: a plain number, as sum's.
 #[derive(Clone, Copy)]
 pub struct Split {
     pub outlets: u64,

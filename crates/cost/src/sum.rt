@@ -5,7 +5,7 @@ ghost use Rattle.std.proofs.Common.{rules};
 use super::kind::Cost;
 use refusal::Refusal;
 
-// A number of picoseconds; the greatest number is FAR.
+// A number of picoseconds; the greatest number is FAR, and no `Option`, since costs are plain numbers in memory that is lent.
 #[derive(Clone, Copy)]
 pub struct Sum {
     pub picoseconds: u64,

@@ -16,7 +16,7 @@ enum Stop {
     NoMemory(AllocError),
 }
 
-// A refusal by the library.
+// A refusal by the library. By hand, since a derive would want a message for each case.
 impl From<Refusal> for Stop {
     fn from(refusal: Refusal) -> Stop {
         Stop::Refused(refusal)

@@ -26,6 +26,7 @@ pub trait FileKind: Cost {
         ensures value { Ranged Self.Cost.kind Self.Cost.formed format result };
 }
 
+// The two impls differ in constants. With the functions' bodies in the trait it would need laws, and laws stay in the cost trait.
 impl FileKind for Sum {
     const BYTE: u8 = 0;
 

@@ -50,7 +50,7 @@ impl<K: FileKind> CostField<K> {
         K::form(number).map_err(|_| FieldFault { index })
     }
 
-    // The first link whose cost is outside the link range is a fault of its record.
+    // The first link whose cost is outside the link range is a fault of its record. A `match` reads plainer here than `map_or`.
     pub(crate) fn check_all(&self, links: &[Link<K>]) -> Result<(), FieldFault>
         requires { length links.now ≤ 4096 }
         ensures refused { field_told result ≡ first_outside K.FileKind.format 0 (map (fields_of K.Cost.kind) links.now) }

@@ -3,7 +3,7 @@ ghost use Rattle.std.specs.Prelude.{◌≡◌, ◌+◌, ◌*◌, ◌<◌, ◌≤
 
 const PAIRS: usize = 65536;
 
-// A flag for each pair of 256 stations, of which the plan has the first so many.
+// A flag for each pair of 256 stations, of which the plan has the first so many: fixed memory, where a set would need a heap.
 #[derive(Clone, Copy)]
 pub(crate) struct Pairs {
     stations: u16,

@@ -19,7 +19,7 @@ use cost::Link;
 use filekind::FileKind;
 use refusal::{RecordFault, Refusal};
 
-// Reads a plan file into the list of links, and answers its counts.
+// Reads a plan file into the list of links, and answers its counts. The list is the caller's whole: places after the links stay.
 pub fn read<K: FileKind>(bytes: &[u8], list: &mut [Link<K>]) -> Result<Counts, Refusal>
     ensures refused { told result ≡ reading_refusal K.FileKind.format (length list.old) bytes.now }
     ensures value { IfOk result (λ c. c ≡ counts_of bytes.now) }
@@ -50,7 +50,8 @@ fn inspect<'a, K: FileKind>(
     Ok((counts, records))
 }
 
-// Passes the records of a plan of so many stations, or answers the first fault.
+// Passes the records of a plan of so many stations, or answers the first fault. A `for`, since of a closure that changes `seen`
+// a proof knows nothing.
 fn check_records<K: FileKind>(
     field: &CostField<K>,
     stations: u16,
@@ -67,7 +68,7 @@ fn check_records<K: FileKind>(
     Ok(())
 }
 
-// Puts the links of the records at the start of the list.
+// Puts the links of the records at the start of the list. By index, since nothing is known of a list after `iter_mut` under `zip`.
 #[tactic(auto, using(crate::proofs::Stored::stored_more))]
 fn store<K: FileKind>(records: &[[u8; 12]], list: &mut [Link<K>])
     requires room { length records.now ≤ length list.old }

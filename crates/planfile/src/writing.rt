@@ -15,7 +15,8 @@ use cost::Link;
 use filekind::FileKind;
 use refusal::Refusal;
 
-// Writes the plan's file at the start of the buffer, and answers its length.
+// Writes the plan's file at the start of the buffer, and answers its length. Stations and links are lent apart, as a list without
+// a plan has them.
 pub fn write<K: FileKind>(
     stations: u16,
     links: &[Link<K>],
@@ -58,7 +59,7 @@ fn measure<K: FileKind>(
     Ok(len)
 }
 
-// The ten bytes before the records.
+// The ten bytes before the records. A function, since a file kind is no value to convert.
 fn header_bytes<K: FileKind>(stations: u16, links: u16) -> [u8; 10]
     ensures value { result ≡ header K.FileKind.format stations links }
 {
@@ -77,7 +78,7 @@ fn paste(buffer: &mut [u8], at: usize, part: &[u8])
     buffer[at..end].copy_from_slice(part);
 }
 
-// Writes the records after the header's ten bytes.
+// Writes the records after the header's ten bytes. By place, since nothing is known of a slice after `chunks_exact_mut`.
 fn write_records<K: FileKind>(links: &[Link<K>], buffer: &mut [u8])
     requires { 10 + 12 * length links.now ≤ length buffer.old }
     ensures after { buffer.new ≡ (take 10 buffer.old ++ flat_map field_bytes (map (fields_of K.Cost.kind) links.now)) ++ drop (10 + 12 * length links.now) buffer.old }

@@ -24,7 +24,8 @@ pub struct FieldFault {
     pub index: u16,
 }
 
-// A fault of one record: of a field of it, or of what its two stations are to the plan.
+// A fault of one record: of a field of it, or of what its two stations are to the plan. Each case keeps the record's index, so
+// that `?` takes it up.
 #[derive(Clone, Copy, PartialEq, Eq, Debug)]
 pub enum RecordFault {
     Field(FieldFault),
@@ -63,13 +64,14 @@ pub enum Facts {
     },
 }
 
-// A refusal as people read it: its number and its facts.
+// A refusal as people read it: its number and its facts. The rules give refusals these numbers, so they are no enum.
 #[derive(Clone, Copy, PartialEq, Eq, Debug)]
 pub struct Code {
     pub number: u8,
     pub facts: Facts,
 }
 
+// A fault passes up whole. The three impls are by hand, since a derived `From` has no contract.
 impl From<FieldFault> for RecordFault {
     ghost from_gives = { λ f r. r ≡ field_of_record f };
 
@@ -134,7 +136,7 @@ impl RecordFault {
 }
 
 impl Refusal {
-    // The refusal's number and facts, from which it can be told.
+    // The refusal's number and facts, from which it can be told. No `From`, whose clauses have no place for `distinct`.
     pub fn code(self) -> Code
         ensures value { result ≡ code_of self }
         ensures distinct { (other : Refusal) → code_of other ≡ code_of self → other ≡ self }

@@ -1,7 +1,7 @@
 // What a shelf is made of.
 ghost use Rattle.std.specs.Prelude.{◌≤◌};
 
-// The rank of each station that waits, and nothing where a station does not wait.
+// The rank of each station that waits, and nothing where a station does not wait; fixed memory, of which `stations` places count.
 #[derive(Drop)]
 pub struct Shelf {
     pub(crate) ranks: [Option<u64>; 256],
