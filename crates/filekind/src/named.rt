@@ -1,6 +1,7 @@
 // The delivered file kinds by name, for what learns the kind as it runs.
-ghost use Rattle.std.specs.Prelude.{◌≡◌};
-ghost use Rattle.filekind.specs.Named.{Names, kind_of};
+ghost use Rattle.std.specs.Prelude.{◌≡◌, slice_index};
+ghost use Rattle.filekind.specs.declared.named.Kind.{Kind};
+ghost use Rattle.filekind.specs.Named.{Names, byte_of, kind_of};
 
 use super::kind::FileKind;
 use cost::{Split, Sum};
@@ -37,6 +38,7 @@ impl Kind {
     // The kind that a file's kind byte names; sum where the byte names none or is missing.
     pub fn of_file(bytes: &[u8]) -> Kind
         ensures value { result ≡ kind_of bytes.now }
+        ensures named { (kind : Kind) → slice_index bytes.now 5 ≡ byte_of kind → result ≡ kind }
     {
         let Some(byte) = bytes.get(5) else {
             return Kind::Sum;

@@ -52,7 +52,7 @@ impl<K: Cost> From<Link<K>> for Fields {
     }
 }
 
-// The link that fields stand for.
+// The link that fields stand for; a number that forms no cost stands for FAR.
 impl<K: Cost> From<Fields> for Link<K> {
     ghost from_gives = { λ x l. l ≡ link_of K.kind K.formed x };
 

@@ -1,18 +1,13 @@
 -- One more record pasted is one more of the encoding.
 use Rattle.std.proofs.Common.{◌≡◌, ℕ, ◌+◌, ◌*◌, ◌<◌, ◌≤◌, List, ◌++◌, map, length, get_or, take, drop, arith}
 use Rattle.std.proofs.lemmas.List.{flat_map_more, length-append, length-map, length-take, map_more}
-use Rattle.std.specs.List.{flat_map}
 use Rattle.cost.specs.Kind.{Kind}
 use Rattle.cost.specs.declared.link.Link.{Link}
 use Rattle.planfile.specs.Fronted.{fronted}
 use Rattle.planfile.specs.Records.{field_bytes, fields_of}
 use Rattle.planfile.proofs.RecordBytes.{length-records}
-use Rattle.planfile.proofs.Stored.{pasted_more}
+use Rattle.planfile.proofs.Stored.{begun, pasted_more}
 use Rattle.planfile.proofs.writing.write_records.Goals as goal
-
--- the bytes of the first i links, after the ten before them
-abbrev begun : {K : Type 0} → Kind K → List (Link K) → List ℕ → ℕ → List ℕ
-begun m links old i = take 10 old ++ flat_map field_bytes (map (fields_of m) (take i links))
 
 -- the record of the link at i, pasted after them
 record_more : {K : Type 0} (m : Kind K) (links : List (Link K)) (old : List ℕ) (i : ℕ) (x : Link K) → 10 ≤ length old → i < length links → x ≡ get_or links i x → take (10 + 12 * i) (begun m links old i ++ drop (10 + 12 * i) old) ++ fronted (field_bytes (fields_of m x)) (drop (10 + 12 * i) (begun m links old i ++ drop (10 + 12 * i) old)) ≡ begun m links old (i + 1) ++ drop (10 + 12 * (i + 1)) old
