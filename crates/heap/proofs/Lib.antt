@@ -1,0 +1,3 @@
+pub mod Sifts
+pub mod Swaps
+pub mod Waiters

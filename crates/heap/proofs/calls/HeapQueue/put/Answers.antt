@@ -1,0 +1,7 @@
+-- The station that is put is one.
+use Rattle.std.proofs.Common.{arith, ap, ◌∙◌}
+use Rattle.std.proofs.lemmas.Bool.Decides.{nat_tests}
+use Rattle.heap.proofs.calls.HeapQueue.put.Goals as goal
+
+pub invariant_of-self-clause-only_stations_wait : goal.invariant_of-self-clause-only_stations_wait
+invariant_of-self-clause-only_stations_wait c = λ s l. ap (λ m. m s) c.put.ensures.waiting ∙ grind (arith, nat_tests, c.args.self.now.only_stations_wait s l)

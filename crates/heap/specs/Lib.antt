@@ -1,0 +1,4 @@
+pub mod Heaped
+pub mod Order
+pub mod Paired
+pub mod Places
