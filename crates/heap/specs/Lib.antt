@@ -2,3 +2,6 @@ pub mod Heaped
 pub mod Order
 pub mod Paired
 pub mod Places
+pub mod Popped
+pub mod Sifting
+pub mod Swapped

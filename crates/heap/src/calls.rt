@@ -1,4 +1,7 @@
 // The calls of a queue on a heap.
+ghost use Rattle.std.specs.Prelude.{◌≡◌, IfOk};
+ghost use Rattle.refusal.specs.First.{told};
+ghost use Rattle.queue.specs.Refusals.{station_refusal};
 ghost use Rattle.heap.specs.Heaped.{heap_meaning};
 ghost use Rattle.std.proofs.Common.{rules};
 
@@ -31,10 +34,8 @@ impl Queue for Heap {
     }
 
     fn put(&mut self, station: u16, rank: u64) -> Result<(), Refusal> {
-        if station >= self.stations {
-            return Err(Refusal::NoStation);
-        }
-        self.tree.put(station as u8, rank);
+        let station = self.station(station)?;
+        self.tree.put(station, rank);
         Ok(())
     }
 
@@ -45,13 +46,24 @@ impl Queue for Heap {
     }
 
     fn waits(&self, station: u16) -> Result<bool, Refusal> {
-        if station >= self.stations {
-            return Err(Refusal::NoStation);
-        }
-        Ok(self.tree.place(station as u8).is_some())
+        let station = self.station(station)?;
+        Ok(self.tree.place(station).is_some())
     }
 
     fn taken(&self) -> u16 {
         self.taken
+    }
+}
+
+impl Heap {
+    // The number of a station as the tree has it, or the refusal of a number that is none.
+    fn station(&self, station: u16) -> Result<u8, Refusal>
+        ensures refused { told result ≡ station_refusal (heap_meaning self.now) station }
+        ensures value { IfOk result (λ s. s ≡ station) }
+    {
+        if station >= self.stations {
+            return Err(Refusal::NoStation);
+        }
+        Ok(station as u8)
     }
 }
