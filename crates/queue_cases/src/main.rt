@@ -49,7 +49,8 @@ fn play<Q: Queue + Drop>(
 // Gives the table of the standard input to each queue.
 fn run(rt: &HostRuntime) -> anyhow::Result<()> {
     let table = io::read_to_string(rt.alloc(), rt.stdin())?;
-    play(rt, "shelf", Shelf::new(), &table)
+    play(rt, "shelf", Shelf::new(), &table)?;
+    Ok(())
 }
 
 // Answers the table of the standard input.
