@@ -8,7 +8,7 @@ use std::fmt::Display;
 // What fills a list before stations are written to it; no station has this number.
 const OLD: u16 = 9999;
 
-// The answer to a call, which it makes of the queue.
+// Makes a call of the queue, and tells its answer.
 pub fn answer<Q: Queue>(heap: Global, queue: &mut Q, call: Call) -> Result<String, AllocError> {
     match call {
         Call::Reset { stations } => done(heap, queue.reset(stations)),

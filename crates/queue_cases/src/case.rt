@@ -1,5 +1,5 @@
 // Cases, as the lines of the table tell them.
-use anyhow::{Result, bail};
+use anyhow::{Context, Result, bail};
 use std::alloc::Global;
 
 // What a line asks for.
@@ -28,7 +28,10 @@ impl Case {
         let words: Vec<&str> = line.split(' ').collect(heap)?;
         match words.as_slice() {
             ["#", ..] => Ok(Case::Comment),
-            words => Ok(Case::Call(Call::parse(words)?)),
+            words => {
+                let call = Call::parse(words).context(format_args!("in the line {line}"))?;
+                Ok(Case::Call(call))
+            }
         }
     }
 }
@@ -58,7 +61,7 @@ impl Call {
                 station: station.parse()?,
                 rank: rank.parse()?,
             }),
-            _ => bail!("no call"),
+            _ => bail!("no call of a queue"),
         }
     }
 }
