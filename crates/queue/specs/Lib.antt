@@ -1,3 +1,4 @@
 pub mod Meaning
 pub mod Calls
 pub mod Refusals
+pub mod Drained

@@ -3,6 +3,8 @@
 // What rests on it is written for any queue that keeps the meaning.
 #![tactic(auto)]
 
+mod draining;
 mod meaning;
 
+pub use draining::drain;
 pub use meaning::Queue;

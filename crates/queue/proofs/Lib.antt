@@ -1,0 +1,2 @@
+pub mod DrainSteps
+pub mod EachOnce
