@@ -16,6 +16,7 @@ mod case;
 
 use call::answer;
 use case::Case;
+use heap::Heap;
 use queue::Queue;
 use shelf::Shelf;
 use std::alloc::Global;
@@ -50,6 +51,7 @@ fn play<Q: Queue + Drop>(
 fn run(rt: &HostRuntime) -> anyhow::Result<()> {
     let table = io::read_to_string(rt.alloc(), rt.stdin())?;
     play(rt, "shelf", Shelf::new(), &table)?;
+    play(rt, "heap", Heap::new(), &table)?;
     Ok(())
 }
 

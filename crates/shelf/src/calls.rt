@@ -1,6 +1,8 @@
 // The calls of a queue on a shelf.
-ghost use Rattle.std.specs.Prelude.{◌≡◌, MatchOption};
+ghost use Rattle.std.specs.Prelude.{◌≡◌, ◌<◌, IfOk, MatchOption};
+ghost use Rattle.refusal.specs.First.{told};
 ghost use Rattle.queue.specs.Meaning.{Nobody, Lowest};
+ghost use Rattle.queue.specs.Refusals.{station_refusal};
 ghost use Rattle.shelf.specs.Shelved.{shelf_meaning};
 ghost use Rattle.std.proofs.Common.{rules};
 
@@ -32,11 +34,9 @@ impl Queue for Shelf {
     }
 
     fn put(&mut self, station: u16, rank: u64) -> Result<(), Refusal> {
-        if station >= self.stations {
-            return Err(Refusal::NoStation);
-        }
-        let place = &mut self.ranks[usize::from(station)];
-        *place = Some(place.map_or(rank, |before| before.min(rank)));
+        let place = self.place(station)?;
+        let waiting = &mut self.ranks[place];
+        *waiting = Some(waiting.map_or(rank, |before| before.min(rank)));
         Ok(())
     }
 
@@ -48,10 +48,8 @@ impl Queue for Shelf {
     }
 
     fn waits(&self, station: u16) -> Result<bool, Refusal> {
-        if station >= self.stations {
-            return Err(Refusal::NoStation);
-        }
-        Ok(self.ranks[usize::from(station)].is_some())
+        let place = self.place(station)?;
+        Ok(self.ranks[place].is_some())
     }
 
     fn taken(&self) -> u16 {
@@ -60,6 +58,17 @@ impl Queue for Shelf {
 }
 
 impl Shelf {
+    // The place of a station's rank, or the refusal of a number that is none.
+    fn place(&self, station: u16) -> Result<usize, Refusal>
+        ensures refused { told result ≡ station_refusal (shelf_meaning self.now) station }
+        ensures value { IfOk result (λ p. (p ≡ station) × (p < self.now.stations)) }
+    {
+        if station >= self.stations {
+            return Err(Refusal::NoStation);
+        }
+        Ok(usize::from(station))
+    }
+
     // The first station of the lowest rank, with that rank, if anybody waits.
     fn lowest(&self) -> Option<Waiter>
         ensures { MatchOption result (Nobody (shelf_meaning self.now)) (λ w. Lowest (shelf_meaning self.now) w.station) }
