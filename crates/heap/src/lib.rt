@@ -1,6 +1,6 @@
 // The heap: a queue that keeps the stations that wait in a binary tree by their ranks, and knows the place of each.
 // Rests on the meaning of queues.
-// Made for large campuses, where looking through all stations takes long.
+// Who uses it sees that meaning alone. Made for large campuses, where looking through all stations takes long.
 #![tactic(auto)]
 
 mod calls;

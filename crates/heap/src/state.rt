@@ -5,7 +5,7 @@ ghost use Rattle.heap.specs.Places.{rank_at, waiting};
 
 use super::tree::Tree;
 
-// The stations that wait, in a tree whose root has the lowest rank.
+// The stations that wait, in a tree whose root has the lowest rank; how many stations there are, and how many were taken.
 #[derive(Drop)]
 pub struct Heap {
     pub(crate) tree: Tree,

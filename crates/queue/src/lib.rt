@@ -1,6 +1,6 @@
 // Queues: stations wait at ranks, and one of the lowest rank is taken. One meaning for every implementation.
 // Rests on the refusals.
-// What rests on it is written for any queue that keeps the meaning.
+// Shelf and heap keep that meaning; what uses a queue is written for any that does.
 #![tactic(auto)]
 
 mod draining;

@@ -19,12 +19,12 @@ pub trait Queue: Sized {
         ensures refused { told result ≡ count_refusal stations }
         ensures after { meaning self.new ≡ (if is_ok result then fresh stations else meaning self.old) };
 
-    // Makes a station wait at a rank, or at a lower rank than before.
+    // Makes a station wait at a rank; one that waits already gets it only where it is the lower.
     fn put(&mut self, station: u16, rank: u64) -> Result<(), Refusal>
         ensures refused { told result ≡ station_refusal (meaning self.old) station }
         ensures after { meaning self.new ≡ (if is_ok result then after_put (meaning self.old) station rank else meaning self.old) };
 
-    // Removes a station of the lowest rank, and answers it.
+    // Removes a station of the lowest rank, and answers it; none where nobody waits.
     fn take(&mut self) -> Option<u16>
         ensures takes { Takes (meaning self.old) result (meaning self.new) };
 

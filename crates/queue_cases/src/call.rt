@@ -9,50 +9,50 @@ use std::fmt::Display;
 const OLD: u16 = 9999;
 
 // Makes a call of the queue, and tells its answer.
-pub fn answer<Q: Queue>(heap: Global, queue: &mut Q, call: Call) -> Result<String, AllocError> {
+pub fn answer<Q: Queue>(alloc: Global, queue: &mut Q, call: Call) -> Result<String, AllocError> {
     match call {
-        Call::Reset { stations } => done(heap, queue.reset(stations)),
-        Call::Put { station, rank } => done(heap, queue.put(station, rank)),
-        Call::Take => station_or_none(heap, queue.take()),
-        Call::Waits { station } => told(heap, queue.waits(station)),
-        Call::Taken => queue.taken().to_string(heap),
-        Call::Drain { places } => drained(heap, queue, places),
+        Call::Reset { stations } => done(alloc, queue.reset(stations)),
+        Call::Put { station, rank } => done(alloc, queue.put(station, rank)),
+        Call::Take => station_or_none(alloc, queue.take()),
+        Call::Waits { station } => told(alloc, queue.waits(station)),
+        Call::Taken => queue.taken().to_string(alloc),
+        Call::Drain { places } => drained(alloc, queue, places),
         Call::Repeat {
             times,
             station,
             rank,
-        } => told(heap, repeated(queue, times, station, rank)),
+        } => told(alloc, repeated(queue, times, station, rank)),
     }
 }
 
 // The text of a value, or of the refusal that stands in its place.
-fn told<T: Display + Drop>(heap: Global, value: Result<T, Refusal>) -> Result<String, AllocError> {
+fn told<T: Display + Drop>(alloc: Global, value: Result<T, Refusal>) -> Result<String, AllocError> {
     match value {
-        Ok(value) => value.to_string(heap),
+        Ok(value) => value.to_string(alloc),
         Err(refusal) => {
             let code = refusal.code();
-            format!(in heap; "refused {code}")
+            format!(in alloc; "refused {code}")
         }
     }
 }
 
 // The text of a call that answers no value.
-fn done(heap: Global, value: Result<(), Refusal>) -> Result<String, AllocError> {
-    told(heap, value.map(|()| "ok"))
+fn done(alloc: Global, value: Result<(), Refusal>) -> Result<String, AllocError> {
+    told(alloc, value.map(|()| "ok"))
 }
 
 // The text of a station that was taken.
-fn station_or_none(heap: Global, station: Option<u16>) -> Result<String, AllocError> {
+fn station_or_none(alloc: Global, station: Option<u16>) -> Result<String, AllocError> {
     match station {
-        Some(station) => station.to_string(heap),
-        None => String::from_str(heap, "none"),
+        Some(station) => station.to_string(alloc),
+        None => String::from_str(alloc, "none"),
     }
 }
 
 // Drains the queue into a list of so many places, and tells how many were taken and what the list then holds.
-fn drained<Q: Queue>(heap: Global, queue: &mut Q, places: usize) -> Result<String, AllocError> {
-    let mut list = vec![in heap; OLD; places]?;
-    let mut text = drain(queue, &mut list).to_string(heap)?;
+fn drained<Q: Queue>(alloc: Global, queue: &mut Q, places: usize) -> Result<String, AllocError> {
+    let mut list = vec![in alloc; OLD; places]?;
+    let mut text = drain(queue, &mut list).to_string(alloc)?;
     for station in &list {
         write!(text, " {station}")?;
     }

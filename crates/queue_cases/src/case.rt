@@ -24,8 +24,8 @@ pub enum Call {
 // Cases by their lines.
 impl Case {
     // The case that a line tells.
-    pub fn parse(heap: Global, line: &str) -> Result<Case> {
-        let words: Vec<&str> = line.split(' ').collect(heap)?;
+    pub fn parse(alloc: Global, line: &str) -> Result<Case> {
+        let words: Vec<&str> = line.split(' ').collect(alloc)?;
         match words.as_slice() {
             ["#", ..] => Ok(Case::Comment),
             words => {

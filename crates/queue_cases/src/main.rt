@@ -23,12 +23,12 @@ use std::alloc::Global;
 use std::io;
 
 // The line of the output for a line of the input.
-fn output<Q: Queue>(heap: Global, queue: &mut Q, line: &str) -> anyhow::Result<String> {
-    match Case::parse(heap, line)? {
-        Case::Comment => Ok(String::from_str(heap, line)?),
+fn output<Q: Queue>(alloc: Global, queue: &mut Q, line: &str) -> anyhow::Result<String> {
+    match Case::parse(alloc, line)? {
+        Case::Comment => Ok(String::from_str(alloc, line)?),
         Case::Call(call) => {
-            let answer = answer(heap, queue, call)?;
-            Ok(format!(in heap; "{line}: {answer}")?)
+            let answer = answer(alloc, queue, call)?;
+            Ok(format!(in alloc; "{line}: {answer}")?)
         }
     }
 }

@@ -69,7 +69,7 @@ impl Shelf {
         Ok(usize::from(station))
     }
 
-    // The first station of the lowest rank, with that rank, if anybody waits.
+    // A waiter of the lowest rank, if anybody waits.
     fn lowest(&self) -> Option<Waiter>
         ensures { MatchOption result (Nobody (shelf_meaning self.now)) (λ w. Lowest (shelf_meaning self.now) w.station) }
     {
