@@ -5,8 +5,8 @@
 --   after_put m s x      station s waits at that rank; all else stays
 --   after_take m s       station s waits no more, and one more was taken
 --   Untaken m m'         nobody waits, and nothing changes
---   Taken m s m'         station s has the lowest rank, and is taken
---   Takes m r m'         taking from m may answer r and leave m': the first where it answers none, else the second
+--   Taken m s m'         station s is one of the lowest rank, and is taken
+--   Takes m r m'         taking from m may answer r and leave m': none where nobody waits, else any station of the lowest rank
 use Rattle.std.specs.Prelude.{◌≡◌, ℕ, ◌+◌, min, Some, None, Option, nat_eq}
 use Rattle.std.specs.Map.{update}
 use Rattle.queue.specs.Meaning.{Meaning, Nobody, Lowest, most_taken}

@@ -2,6 +2,7 @@
 use Rattle.std.proofs.Common.{rules, arith, ℕ, ◌<◌, ◌≡◌, slice_index}
 use Rattle.heap.proofs.tree.Tree.new.Goals as goal
 
+-- what the closure gives at k
 number : (c : goal.After-from_fn-numbers) (k : ℕ) → k < 256 → slice_index c.from_fn-numbers.result k ≡ k
 number c k l = let h = c.from_fn-numbers.ensures.items.at k 0 l in let e = h.2.met in search (rules, e)
 
