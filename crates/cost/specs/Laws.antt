@@ -4,6 +4,7 @@
 --   Laws m       ranks are 64-bit numbers; join is associative; zero changes nothing, FAR takes over
 --                everything; join keeps "at most" on both sides
 --   Strict m     join keeps "below"; joining a cost other than zero goes above
+--   ZeroLeast m  zero is at most every cost, which the strict laws say too
 use Rattle.std.specs.Prelude.{◌≡◌, ◌≤◌}
 use Rattle.cost.specs.Kind.{Kind, FAR, Same, AtMost, Below}
 
@@ -22,3 +23,6 @@ pub record Laws {K : Type 0} (m : Kind K) : Type 0 where
 pub record Strict {K : Type 0} (m : Kind K) : Type 0 where
   pub join_keeps_below : (a b c : K) → Below m a b → (Same m (m.joined c a) m.far → ⊥) → Below m (m.joined c a) (m.joined c b)
   pub join_goes_above : (a b : K) → (Same m a m.far → ⊥) → (Same m b m.zero → ⊥) → Below m a (m.joined a b)
+
+abbrev pub ZeroLeast : {K : Type 0} → Kind K → Type 0
+ZeroLeast {K} m = (a : K) → AtMost m m.zero a

@@ -1,0 +1,10 @@
+pub mod Network
+pub mod Walk
+pub mod Least
+pub mod Row
+pub mod Fails
+pub mod Chain
+pub mod Task
+pub mod Offers
+pub mod Methods
+pub mod Runs
