@@ -15,11 +15,11 @@ pub data Walk {K : Type 0} (m : Kind K) (net : Network K) (A : ℕ) : ℕ → K 
   stay : Walk m net A A m.zero
   on : {c : K} {l : Link K} → Walk m net A l.from c → Contains net.links l → Walk m net A l.to (m.joined c l.cost)
 
-pub stations : {K : Type 0} {m : Kind K} {net : Network K} {A B : ℕ} {c : K} → Walk m net A B c → List ℕ
+abbrev pub stations : {K : Type 0} {m : Kind K} {net : Network K} {A B : ℕ} {c : K} → Walk m net A B c → List ℕ
 stations {A = A} stay = A ∷ []
 stations (on {l = l} walk laid) = stations walk ++ l.to ∷ []
 
-pub before : {K : Type 0} {m : Kind K} {net : Network K} {A B : ℕ} {c : K} → Walk m net A B c → Option ℕ
+abbrev pub before : {K : Type 0} {m : Kind K} {net : Network K} {A B : ℕ} {c : K} → Walk m net A B c → Option ℕ
 before stay = None
 before (on {l = l} walk laid) = Some l.from
 
