@@ -37,13 +37,13 @@ module _ {K : Type 0} {m : Kind K} (laws : Laws m) (zero_least : ZeroLeast m) {t
 
   -- over links that are picked
   module _ (first : ℕ → Option ℕ) (pick : Link K → Bool) where
-    abbrev over : Link K → Offer K
+    abbrev pub over : Link K → Offer K
     over l = record { station = l.to; cost = m.joined (s.row.costs t) l.cost; predecessor = Some t; first = first l.to; puts = true }
 
     abbrev links : List (Link K)
     links = links_from m task.network t pick
 
-    link_of : (o : Offer K) → Contains (over_links m s t first links) o → (l : Link K) × Contains task.network.links l × (l.from ≡ t) × (over l ≡ o)
+    pub link_of : (o : Offer K) → Contains (over_links m s t first links) o → (l : Link K) × Contains task.network.links l × (l.from ≡ t) × (over l ≡ o)
     link_of o has =
         let l = in_from_map over links o has in
         let f = in_from_filter (λ l. l.from == t && pick l) task.network.links l.0 l.1 in
@@ -291,10 +291,10 @@ module _ {K : Type 0} {m : Kind K} (laws : Laws m) (zero_least : ZeroLeast m) {t
   fair_reuse rows_right other None is = fair_plain other
   fair_reuse rows_right other (Some row) is = fair_along row (rows_right t row t_there is) other
 
-  fair_by : RowsRight m task → (task.method ≡ Prune → Strict m) → (method : Method) → task.method ≡ method → Fair m task s t (by_method m task s t method)
+  fair_by : ((task.method ≢ Plain) → RowsRight m task) → (task.method ≡ Prune → Strict m) → (method : Method) → task.method ≡ method → Fair m task s t (by_method m task s t method)
   fair_by rows_right strict Plain is = fair_plain (λ p. absurd (cc (is, p)))
-  fair_by rows_right strict Reuse is = fair_reuse rows_right (λ p. absurd (cc (is, p))) (task.rows t) refl
-  fair_by rows_right strict Prune is = fair_prune (strict is) rows_right is
+  fair_by rows_right strict Reuse is = fair_reuse (rows_right (λ p. absurd (cc (is, p)))) (λ p. absurd (cc (is, p))) (task.rows t) refl
+  fair_by rows_right strict Prune is = fair_prune (strict is) (rows_right (λ p. absurd (cc (is, p)))) is
 
-  pub fair_offers : RowsRight m task → (task.method ≡ Prune → Strict m) → Fair m task s t (offers m task s t)
+  pub fair_offers : ((task.method ≢ Plain) → RowsRight m task) → (task.method ≡ Prune → Strict m) → Fair m task s t (offers m task s t)
   fair_offers rows_right strict = fair_by rows_right strict task.method refl

@@ -1,3 +1,8 @@
+pub mod Counting
+pub mod LowestFound
+pub mod NoLower
+pub mod Offered
+pub mod Takings
 pub mod Members
 pub mod Costs
 pub mod Follows
@@ -6,3 +11,5 @@ pub mod Steps
 pub mod JoinedWalks
 pub mod RightRows
 pub mod FairOffers
+pub mod Ends
+pub mod PlainOrder

@@ -1,0 +1,122 @@
+-- In a run of plain every station's predecessor was taken before it, and its label came over a link from there. No strict law is used.
+use Rattle.std.proofs.Common.{◌≡◌, ℕ, ◌+◌, ◌<◌, ◌≤◌, Bool, true, false, not, cond, ◌⊎◌, inl, inr, ⊎_elim, List, [], ◌∷◌, ◌++◌, length, Option, Some, None, refl, ap, subst, sym, ◌∙◌, arith, ◌≢◌, ◌==◌}
+use Rattle.std.specs.List.{Contains, position_or_len}
+use Rattle.std.proofs.lemmas.Bool.{cases_eq, cases_lt}
+use Rattle.std.proofs.lemmas.Bool.Decides.{nat_tests}
+use Rattle.std.proofs.lemmas.List.{length_push}
+use Rattle.std.proofs.lemmas.List.Folds.{position_or_len_push}
+use Rattle.std.proofs.lemmas.List.Sums.{sum_by-cons}
+use Rattle.cost.specs.Kind.{Kind, FAR, Same, AtMost, Below}
+use Rattle.cost.specs.Laws.{Laws, ZeroLeast}
+use Rattle.cost.specs.declared.link.Link.{Link}
+use Rattle.queue.specs.Drained.{times}
+use Rattle.queue.specs.Meaning.{Lowest}
+use Rattle.routes.specs.Task.{Task, Workable, State}
+use Rattle.routes.specs.Offers.{Offer}
+use Rattle.routes.specs.Methods.{offers, plain, by_method}
+use Rattle.routes.specs.Runs.{taking, followed, Reached, start, next}
+use Rattle.routes.specs.declared.method.Method.{Method}
+use Rattle.routes.specs.declared.method.Method.TheVariants.{Plain, Prune}
+use Rattle.routes.proofs.Follows.{Kept, Moved, follows_all}
+use Rattle.routes.proofs.Takings.{taken_keeps}
+use Rattle.routes.proofs.Labels.{Labels}
+use Rattle.routes.proofs.FairOffers.{link_of}
+use Rattle.routes.proofs.Ends.{begun_far, labels_reached}
+
+-- when v was first taken; the length of xs where it was not
+abbrev pub when : ℕ → List ℕ → ℕ
+when v xs = position_or_len (λ x. x == v) xs
+
+when_at_most : (v : ℕ) (xs : List ℕ) → when v xs ≤ length xs
+when_at_most v [] = omega arith
+when_at_most v (x ∷ xs) = let rest = when_at_most v xs in grind (arith, nat_tests)
+
+when_taken : (v : ℕ) (xs : List ℕ) → when v xs < length xs → 1 ≤ times v xs
+when_taken v [] l = absurd (omega arith)
+when_taken v (x ∷ xs) l = let rest = when_taken v xs in rw sum_by-cons (grind (arith, nat_tests))
+
+-- when one more is taken
+when_push : (v t : ℕ) (xs : List ℕ) → when v (xs ++ t ∷ []) ≡ (cond (when v xs == length xs) (length xs + cond (t == v) 0 1) (when v xs))
+when_push v t xs = position_or_len_push (λ x. x == v) xs t
+
+module _ {K : Type 0} {m : Kind K} (laws : Laws m) (zero_least : ZeroLeast m) {task : Task K} (workable : Workable task) (is_plain : task.method ≡ Plain) where
+  -- the predecessor of v was taken before v, and v's label came over a link from there
+  pub record Earlier (xs : List ℕ) (s : State K) (v : ℕ) : Type 0 where
+    pub station : ℕ
+    pub is : s.row.predecessors v ≡ Some station
+    pub earlier : when station xs < when v xs
+    pub link : Link K
+    pub laid : Contains task.network.links link
+    pub leaves : link.from ≡ station
+    pub ends : link.to ≡ v
+    pub costs_that : Same m (m.joined (s.row.costs station) link.cost) (s.row.costs v)
+
+  module _ {xs : List ℕ} {s : State K} {t : ℕ} (reached : Reached m task xs s) (lowest : Lowest s.queue t) where
+    abbrev then : State K
+    then = followed m task s t
+
+    -- what has been taken keeps its label
+    keeps : (u : ℕ) → when u (xs ++ t ∷ []) < length (xs ++ t ∷ []) → then.row.costs u ≡ s.row.costs u
+    keeps u l = (taken_keeps laws zero_least workable reached lowest u (when_taken u (xs ++ t ∷ []) l)).cost
+
+    earlier_kept : (v : ℕ) → Kept (taking s t) v then → Earlier xs s v → Earlier (xs ++ t ∷ []) then v
+    earlier_kept v k e =
+        let p_before = when_push e.station t xs in
+        let v_before = when_push v t xs in
+        let most = when_at_most v xs in
+        let earlier = e.earlier in
+        let longer = length_push xs t in
+        record {
+          station = e.station;
+          is = k.predecessor ∙ e.is;
+          earlier = grind (arith, nat_tests);
+          link = e.link;
+          laid = e.laid;
+          leaves = e.leaves;
+          ends = e.ends;
+          costs_that = rw (keeps e.station (grind (arith, nat_tests)), k.cost) e.costs_that;
+        }
+
+    moved_later : (v : ℕ) → Moved m (taking s t) (plain m task s t) v then → when v (xs ++ t ∷ []) ≡ length (xs ++ t ∷ [])
+    moved_later v d =
+        let most = when_at_most v (xs ++ t ∷ []) in
+        ⊎_elim
+        (λ (l : when v (xs ++ t ∷ []) < length (xs ++ t ∷ [])).
+        let same = ap m.rank (keeps v l) in
+        let cost = ap m.rank d.cost in
+        let lower = d.lower in
+        absurd (omega arith))
+        (λ (ge : length (xs ++ t ∷ []) ≤ when v (xs ++ t ∷ [])). omega arith)
+        (cases_lt (when v (xs ++ t ∷ [])) (length (xs ++ t ∷ [])))
+
+    earlier_moved : Labels m task s → (v : ℕ) → Moved m (taking s t) (plain m task s t) v then → Earlier (xs ++ t ∷ []) then v
+    earlier_moved labels v d =
+        let l = link_of laws zero_least workable labels lowest (λ u. None) (λ k. true) d.offer d.made in
+        let t_before = when_push t t xs in
+        let most = when_at_most t xs in
+        let longer = length_push xs t in
+        let later = moved_later v d in
+        let before : when t (xs ++ t ∷ []) < length (xs ++ t ∷ []) = grind (arith, nat_tests) in
+        record {
+          station = t;
+          is = d.predecessor ∙ sym (ap (λ (o : Offer K). o.predecessor) l.3);
+          earlier = omega arith;
+          link = l.0;
+          laid = l.1;
+          leaves = l.2;
+          ends = ap (λ (o : Offer K). o.station) l.3 ∙ d.here;
+          costs_that = rw (keeps t before, d.cost) (ap (λ (o : Offer K). m.rank o.cost) l.3);
+        }
+
+  labels_of_plain : {xs : List ℕ} {s : State K} → Reached m task xs s → Labels m task s
+  labels_of_plain = labels_reached laws zero_least task workable (λ other. absurd (other is_plain)) (λ pruned. absurd (cc (is_plain, pruned)))
+
+  -- so in every state that plain comes to
+  pub earlier_reached : {xs : List ℕ} {s : State K} → Reached m task xs s → (v : ℕ) → (v ≢ task.source) → Below m (s.row.costs v) m.far → Earlier xs s v
+  earlier_reached start v ne below = let e = begun_far laws zero_least task v ne in let f = laws.far_rank in absurd (omega arith)
+  earlier_reached (next {xs = xs} {s = s} {t = t} reached lowest) v ne below =
+      ⊎_elim
+      (λ k. earlier_kept reached lowest v k (earlier_reached reached v ne (let e = ap m.rank k.cost in omega arith)))
+      (λ d. earlier_moved reached lowest (labels_of_plain reached) v
+      (subst (λ (method : Method). Moved m (taking s t) (by_method m task s t method) v (followed m task s t)) is_plain d))
+      ((follows_all m (offers m task s t) (taking s t)).fate v)
