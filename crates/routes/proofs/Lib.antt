@@ -1,6 +1,6 @@
 pub mod Counting
 pub mod LowestFound
-pub mod NoLower
+pub mod OnwardOffers
 pub mod Offered
 pub mod Takings
 pub mod Members

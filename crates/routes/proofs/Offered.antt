@@ -1,4 +1,4 @@
--- Fair offers keep how the stations stand that were taken, and those that wait.
+-- Onward offers keep how the stations stand that were taken, and those that wait.
 use Rattle.std.proofs.Common.{◌≡◌, ℕ, ◌<◌, ◌≤◌, Bool, true, false, List, [], ◌∷◌, Option, Some, None, refl, arith, ◌==◌, ◌||◌, ◌&&◌, if◌then◌else◌, is_some, nat_lt, ◌∙◌}
 use Rattle.std.proofs.lemmas.Bool.{cases_eq, cond_both, ltb-true}
 use Rattle.std.proofs.lemmas.Bool.Decides.{nat_tests}
@@ -11,7 +11,7 @@ use Rattle.queue.specs.Meaning.{Meaning, Waits}
 use Rattle.routes.specs.Chain.{NoneTwice}
 use Rattle.routes.specs.Task.{State, written}
 use Rattle.routes.specs.Offers.{Offer, taken_up, offered, offered_all}
-use Rattle.routes.proofs.NoLower.{Fair}
+use Rattle.routes.proofs.OnwardOffers.{Onward}
 
 -- of n stations xs were taken, none at a higher rank than x, and those that wait do so at no lower rank than x; where P holds, each
 -- station below FAR was taken or waits
@@ -37,7 +37,7 @@ ranks_put q true u x v low = let e = at_rank_lower (q.ranks u) x low in grind (a
 ranks_put q false u x v low = refl
 
 module _ {K : Type 0} {m : Kind K} {n : ℕ} {P : Type 0} {xs : List ℕ} {x : ℕ} (fits : (a : K) → m.rank a ≤ FAR) where
-  module _ {s : State K} {o : Offer K} (held : Held m n P xs x s) (fair : Fair m n P x o) where
+  module _ {s : State K} {o : Offer K} (held : Held m n P xs x s) (onward : Onward m n P x o) where
     abbrev after : State K
     after = taken_up m s o
 
@@ -50,28 +50,28 @@ module _ {K : Type 0} {m : Kind K} {n : ℕ} {P : Type 0} {xs : List ℕ} {x : �
         record {
           none_twice = held.none_twice;
           settled = λ v in_xs. let l = label v in let w = waits v in let old = held.settled v in
-              let away : v ≡ o.station → ⊥ = λ e. grind (arith, old, fair.no_lower) in
+              let away : v ≡ o.station → ⊥ = λ e. grind (arith, old, onward.no_lower) in
               (grind (arith, nat_tests, away), (old in_xs).1, grind (arith, nat_tests, away), grind (arith, nat_tests, away));
           waiting = λ v y now. let l = label v in let w = waits v in let old = held.waiting v y in let bound = fits (s.row.costs o.station) in (
             grind (arith, nat_tests, cases_eq v o.station),
-            grind (arith, nat_tests, cases_eq v o.station, fair.station),
+            grind (arith, nat_tests, cases_eq v o.station, onward.station),
             grind (arith, nat_tests, cases_eq v o.station),
-            grind (arith, nat_tests, cases_eq v o.station, fair.no_lower),
+            grind (arith, nat_tests, cases_eq v o.station, onward.no_lower),
           );
-          whole = λ p v low idle. let l = label v in let w = waits v in let old = held.whole p v in let put = fair.puts p in
+          whole = λ p v low idle. let l = label v in let w = waits v in let old = held.whole p v in let put = onward.puts p in
               grind (arith, nat_tests, cases_eq v o.station);
         }
 
-  offered_held : {s : State K} {o : Offer K} → Held m n P xs x s → Fair m n P x o → Held m n P xs x (offered m s o)
-  offered_held {s} {o} held fair =
+  offered_held : {s : State K} {o : Offer K} → Held m n P xs x s → Onward m n P x o → Held m n P xs x (offered m s o)
+  offered_held {s} {o} held onward =
       cond_both (nat_lt (m.rank o.cost) (m.rank (s.row.costs o.station))) _ _ (Held m n P xs x)
-      (λ e. taken_up_held held fair (ltb-true _ _ e)) (λ e. held)
+      (λ e. taken_up_held held onward (ltb-true _ _ e)) (λ e. held)
 
-  -- so do fair offers, one after the other
-  pub all_held : (s : State K) (os : List (Offer K)) → All (Fair m n P x) os → Held m n P xs x s → Held m n P xs x (offered_all m s os)
-  all_held s [] fair held = held
-  all_held s (o ∷ os) fair held =
-      all_held (offered m s o) os (All-tail (Fair m n P x) o os fair) (offered_held held (All-head (Fair m n P x) o os fair))
+  -- so do onward offers, one after the other
+  pub all_held : (s : State K) (os : List (Offer K)) → All (Onward m n P x) os → Held m n P xs x s → Held m n P xs x (offered_all m s os)
+  all_held s [] onward held = held
+  all_held s (o ∷ os) onward held =
+      all_held (offered m s o) os (All-tail (Onward m n P x) o os onward) (offered_held held (All-head (Onward m n P x) o os onward))
 
 -- what a station that was taken has stays
 pub record Kept {K : Type 0} (s u : State K) (v : ℕ) : Type 0 where
@@ -80,21 +80,21 @@ pub record Kept {K : Type 0} (s u : State K) (v : ℕ) : Type 0 where
   pub first : u.firsts v ≡ s.firsts v
 
 module _ {K : Type 0} {m : Kind K} {n : ℕ} {P : Type 0} {x : ℕ} (v : ℕ) where
-  offered_keeps : (s : State K) (o : Offer K) → m.rank (s.row.costs v) ≤ x → Fair m n P x o → Kept s (offered m s o) v
-  offered_keeps s o low fair =
+  offered_keeps : (s : State K) (o : Offer K) → m.rank (s.row.costs v) ≤ x → Onward m n P x o → Kept s (offered m s o) v
+  offered_keeps s o low onward =
       cond_both (nat_lt (m.rank o.cost) (m.rank (s.row.costs o.station))) _ _ (λ u. Kept s u v)
-      (λ e. let better = ltb-true _ _ e in let bound = fair.no_lower in let away : v ≡ o.station → ⊥ = λ i. grind arith in record {
+      (λ e. let better = ltb-true _ _ e in let bound = onward.no_lower in let away : v ≡ o.station → ⊥ = λ i. grind arith in record {
         cost = grind (arith, nat_tests, away);
         predecessor = grind (arith, nat_tests, away);
         first = grind (arith, nat_tests, away);
       })
       (λ e. record { cost = refl; predecessor = refl; first = refl })
 
-  pub all_keep : (s : State K) (os : List (Offer K)) → m.rank (s.row.costs v) ≤ x → All (Fair m n P x) os → Kept s (offered_all m s os) v
-  all_keep s [] low fair = record { cost = refl; predecessor = refl; first = refl }
-  all_keep s (o ∷ os) low fair =
-      let here = offered_keeps s o low (All-head (Fair m n P x) o os fair) in
-      let rest = all_keep (offered m s o) os (rw here.cost low) (All-tail (Fair m n P x) o os fair) in
+  pub all_keep : (s : State K) (os : List (Offer K)) → m.rank (s.row.costs v) ≤ x → All (Onward m n P x) os → Kept s (offered_all m s os) v
+  all_keep s [] low onward = record { cost = refl; predecessor = refl; first = refl }
+  all_keep s (o ∷ os) low onward =
+      let here = offered_keeps s o low (All-head (Onward m n P x) o os onward) in
+      let rest = all_keep (offered m s o) os (rw here.cost low) (All-tail (Onward m n P x) o os onward) in
       record {
         cost = rest.cost ∙ here.cost;
         predecessor = rest.predecessor ∙ here.predecessor;

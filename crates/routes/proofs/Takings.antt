@@ -14,7 +14,7 @@ use Rattle.routes.specs.Runs.{Reached, Run, start, next, taking, followed, below
 use Rattle.routes.specs.Task.{Task, State, Workable, begun}
 use Rattle.routes.specs.declared.method.Method.TheVariants.{Reuse}
 use Rattle.routes.proofs.Counting.{counted_few, at_most_counted, at_least_counted}
-use Rattle.routes.proofs.NoLower.{offers_fair}
+use Rattle.routes.proofs.OnwardOffers.{offers_onward}
 use Rattle.routes.proofs.LowestFound.{lowest_found}
 use Rattle.routes.proofs.Offered.{Held, Kept, all_held, all_keep, same_taken}
 
@@ -64,7 +64,7 @@ module _ {K : Type 0} {m : Kind K} {task : Task K} (laws : Laws m) (zero_least :
   pub reached_held : {xs : List ℕ} {s : State K} → Reached m task xs s → (x : ℕ) × Now xs x s
   reached_held start = (0, begun_held)
   reached_held (next {xs} {s} {t} reached low) =
-      (m.rank (s.row.costs t), all_held laws.rank_fits (taking s t) (offers m task s t) (offers_fair laws zero_least s t task workable) (taking_held (reached_held reached).1 low))
+      (m.rank (s.row.costs t), all_held laws.rank_fits (taking s t) (offers m task s t) (offers_onward laws zero_least s t task workable) (taking_held (reached_held reached).1 low))
 
   -- a station that was taken does not wait, is below FAR, and its label is at most each label that waits
   pub taken_first : {xs : List ℕ} {s : State K} → Reached m task xs s → (v : ℕ) → 1 ≤ times v xs
@@ -79,7 +79,7 @@ module _ {K : Type 0} {m : Kind K} {task : Task K} (laws : Laws m) (zero_least :
       → Kept s (followed m task s t) v
   taken_keeps {xs} {s} {t} reached low v in_xs =
       let held = taking_held (reached_held reached).1 low in
-      let kept = all_keep v (taking s t) (offers m task s t) (held.settled v in_xs).3 (offers_fair laws zero_least s t task workable) in
+      let kept = all_keep v (taking s t) (offers m task s t) (held.settled v in_xs).3 (offers_onward laws zero_least s t task workable) in
       record { cost = kept.cost; predecessor = kept.predecessor; first = kept.first }
 
   -- the contracts

@@ -12,6 +12,7 @@ ghost use Rattle.routes.specs.declared.method.Method.TheVariants.{Plain, Reuse};
 use cost::Cost;
 
 // Every run ends, whatever the rows that it reads: while somebody waits a station can be taken, and none is taken twice.
+#[tactic(auto, using(crate::proofs::Takings::ends))]
 pub fn runs_end<K>()
     ensures goes_on { (m : Kind K) (task : Task K) (xs : List ℕ) (s : State K) → Laws m → ZeroLeast m → Workable task → Reached m task xs s → Nobody s.queue ⊎ ((t : ℕ) × Lowest s.queue t) }
     ensures none_twice { (m : Kind K) (task : Task K) (xs : List ℕ) (s : State K) → Laws m → ZeroLeast m → Workable task → Reached m task xs s → NoneTwice xs }
@@ -20,6 +21,7 @@ pub fn runs_end<K>()
 }
 
 // How many stations are taken.
+#[tactic(auto, using(crate::proofs::Takings::counts))]
 pub fn runs_count<K>()
     ensures taken { (m : Kind K) (task : Task K) (xs : List ℕ) (s : State K) → Laws m → ZeroLeast m → Workable task → Reached m task xs s → s.queue.taken ≡ length xs }
     ensures some { (m : Kind K) (task : Task K) (xs : List ℕ) (s : State K) → Laws m → ZeroLeast m → Workable task → Run m task xs s → 1 ≤ s.queue.taken }

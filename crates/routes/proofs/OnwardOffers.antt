@@ -16,7 +16,7 @@ use Rattle.routes.specs.declared.method.Method.TheVariants.{Plain, Reuse, Prune}
 use Rattle.routes.proofs.Costs.{on_no_less}
 
 -- an offer for one of n stations, at no lower rank than x, that is sure to put the station where P holds
-pub record Fair {K : Type 0} (m : Kind K) (n : ℕ) (P : Type 0) (x : ℕ) (o : Offer K) : Type 0 where
+pub record Onward {K : Type 0} (m : Kind K) (n : ℕ) (P : Type 0) (x : ℕ) (o : Offer K) : Type 0 where
   pub station : o.station < n
   pub no_lower : x ≤ m.rank o.cost
   pub puts : P → o.puts ≡ true
@@ -30,32 +30,32 @@ module _ {K : Type 0} {m : Kind K} (laws : Laws m) (zero_least : ZeroLeast m) (s
   own = m.rank (s.row.costs t)
 
   -- over links
-  links_fair : {P : Type 0} (net : Network K) (between : Between net) (first : ℕ → Option ℕ) (pick : Link K → Bool)
-      → All (Fair m net.stations P own) (over_links m s t first (links_from m net t pick))
-  links_fair {P} net between first pick = all_picked (Fair m net.stations P own) _ _ net.links (λ l c. record {
+  links_onward : {P : Type 0} (net : Network K) (between : Between net) (first : ℕ → Option ℕ) (pick : Link K → Bool)
+      → All (Onward m net.stations P own) (over_links m s t first (links_from m net t pick))
+  links_onward {P} net between first pick = all_picked (Onward m net.stations P own) _ _ net.links (λ l c. record {
     station = (between l c).1;
     no_lower = on_no_less laws zero_least (s.row.costs t) l.cost;
     puts = λ p. refl;
   })
 
   -- along a row
-  row_fair : {P : Type 0} (n : ℕ) (row : Row K) → (P → ⊥) → All (Fair m n P own) (along_row m s t n row)
-  row_fair {P} n row never =
-      All-map (Fair m n P own) _ _ (λ k d l. record {
+  row_onward : {P : Type 0} (n : ℕ) (row : Row K) → (P → ⊥) → All (Onward m n P own) (along_row m s t n row)
+  row_onward {P} n row never =
+      All-map (Onward m n P own) _ _ (λ k d l. record {
         station = let long = length-range_with_len 0 n in let e = get_or-range_with_len 0 n k d (omega arith) in omega arith;
         no_lower = on_no_less laws zero_least (s.row.costs t) (row.costs _);
         puts = λ p. absurd (never p);
       })
 
   module _ (task : Task K) (workable : Workable task) where
-    reuse_fair : {P : Type 0} → (P → ⊥) → (row : Option (Row K)) → All (Fair m task.network.stations P own) (reuse m task s t row)
-    reuse_fair never None = links_fair task.network workable.between _ _
-    reuse_fair never (Some row) = row_fair task.network.stations row never
+    reuse_onward : {P : Type 0} → (P → ⊥) → (row : Option (Row K)) → All (Onward m task.network.stations P own) (reuse m task s t row)
+    reuse_onward never None = links_onward task.network workable.between _ _
+    reuse_onward never (Some row) = row_onward task.network.stations row never
 
-    method_fair : (method : Method) → All (Fair m task.network.stations (method ≢ Reuse) own) (by_method m task s t method)
-    method_fair Plain = links_fair task.network workable.between _ _
-    method_fair Reuse = reuse_fair (λ other. other refl) (task.rows t)
-    method_fair Prune = links_fair task.network workable.between _ _
+    method_onward : (method : Method) → All (Onward m task.network.stations (method ≢ Reuse) own) (by_method m task s t method)
+    method_onward Plain = links_onward task.network workable.between _ _
+    method_onward Reuse = reuse_onward (λ other. other refl) (task.rows t)
+    method_onward Prune = links_onward task.network workable.between _ _
 
-    pub offers_fair : All (Fair m task.network.stations (task.method ≢ Reuse) own) (offers m task s t)
-    offers_fair = method_fair task.method
+    pub offers_onward : All (Onward m task.network.stations (task.method ≢ Reuse) own) (offers m task s t)
+    offers_onward = method_onward task.method
