@@ -12,7 +12,7 @@ use Rattle.routes.specs.Task.{Task, Workable, RowsRight, State, begun}
 use Rattle.routes.specs.Methods.{offers}
 use Rattle.routes.specs.Runs.{taking, Reached, start, next, Run}
 use Rattle.routes.specs.declared.method.Method.TheVariants.{Plain, Prune}
-use Rattle.routes.proofs.Costs.{at_most_far}
+use Rattle.routes.proofs.Costs.{at_most_far, zero_least_from_strict}
 use Rattle.routes.proofs.Follows.{Ranked, waits, follows_all}
 use Rattle.routes.proofs.Labels.{Labels, walked, cheaper_walks_known}
 use Rattle.routes.proofs.Steps.{labels_followed}
@@ -92,3 +92,9 @@ module _ {K : Type 0} {m : Kind K} (laws : Laws m) (zero_least : ZeroLeast m) (t
           missing = λ v there. (missing_only labels run.over v, ⊎_elim (λ e. ap s.row.predecessors e ∙ labels.source_none) (labels.far_none v));
           given = λ v p there. given_last labels run.over v p;
         }
+
+-- for a kind with the strict laws
+pub runs_right : {K : Type 0} {m : Kind K} {task : Task K} {xs : List ℕ} {s : State K} → Laws m → Strict m → Workable task → RowsRight m task → Run m task xs s
+    → Right m task.network task.source s.row
+runs_right {task = task} laws strict workable rows_right run =
+    right_at_end laws (zero_least_from_strict laws strict) task workable (λ other. rows_right) (λ pruned. strict) run

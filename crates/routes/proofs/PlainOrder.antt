@@ -11,17 +11,21 @@ use Rattle.cost.specs.Laws.{Laws, ZeroLeast}
 use Rattle.cost.specs.declared.link.Link.{Link}
 use Rattle.queue.specs.Drained.{times}
 use Rattle.queue.specs.Meaning.{Lowest}
+use Rattle.routes.specs.Row.{Right}
+use Rattle.routes.specs.Chain.{Chain, LeastRoute}
 use Rattle.routes.specs.Task.{Task, Workable, State}
 use Rattle.routes.specs.Offers.{Offer}
 use Rattle.routes.specs.Methods.{offers, plain, by_method}
-use Rattle.routes.specs.Runs.{taking, followed, Reached, start, next}
+use Rattle.routes.specs.Runs.{taking, followed, Reached, start, next, Run}
 use Rattle.routes.specs.declared.method.Method.{Method}
 use Rattle.routes.specs.declared.method.Method.TheVariants.{Plain, Prune}
 use Rattle.routes.proofs.Follows.{Kept, Moved, follows_all}
 use Rattle.routes.proofs.Takings.{taken_keeps}
+use Rattle.routes.proofs.Costs.{at_most_far}
 use Rattle.routes.proofs.Labels.{Labels}
 use Rattle.routes.proofs.FairOffers.{link_of}
-use Rattle.routes.proofs.Ends.{begun_far, labels_reached}
+use Rattle.routes.proofs.Ends.{begun_far, labels_reached, right_at_end}
+use Rattle.routes.proofs.Chains.{Descends, Follows, route, reach}
 
 -- when v was first taken; the length of xs where it was not
 abbrev pub when : ℕ → List ℕ → ℕ
@@ -44,12 +48,7 @@ module _ {K : Type 0} {m : Kind K} (laws : Laws m) (zero_least : ZeroLeast m) {t
   pub record Earlier (xs : List ℕ) (s : State K) (v : ℕ) : Type 0 where
     pub station : ℕ
     pub is : s.row.predecessors v ≡ Some station
-    pub earlier : when station xs < when v xs
-    pub link : Link K
-    pub laid : Contains task.network.links link
-    pub leaves : link.from ≡ station
-    pub ends : link.to ≡ v
-    pub costs_that : Same m (m.joined (s.row.costs station) link.cost) (s.row.costs v)
+    pub by : Follows m task.network s.row (λ u. when u xs) station v
 
   module _ {xs : List ℕ} {s : State K} {t : ℕ} (reached : Reached m task xs s) (lowest : Lowest s.queue t) where
     abbrev then : State K
@@ -64,17 +63,20 @@ module _ {K : Type 0} {m : Kind K} (laws : Laws m) (zero_least : ZeroLeast m) {t
         let p_before = when_push e.station t xs in
         let v_before = when_push v t xs in
         let most = when_at_most v xs in
-        let earlier = e.earlier in
+        let rises = e.by.rises in
         let longer = length_push xs t in
         record {
           station = e.station;
           is = k.predecessor ∙ e.is;
-          earlier = grind (arith, nat_tests);
-          link = e.link;
-          laid = e.laid;
-          leaves = e.leaves;
-          ends = e.ends;
-          costs_that = rw (keeps e.station (grind (arith, nat_tests)), k.cost) e.costs_that;
+          by = record {
+            station = e.by.station;
+            rises = grind (arith, nat_tests);
+            link = e.by.link;
+            laid = e.by.laid;
+            starts = e.by.starts;
+            ends = e.by.ends;
+            tight = rw (keeps e.station (grind (arith, nat_tests)), k.cost) e.by.tight;
+          };
         }
 
     moved_later : (v : ℕ) → Moved m (taking s t) (plain m task s t) v then → when v (xs ++ t ∷ []) ≡ length (xs ++ t ∷ [])
@@ -100,12 +102,15 @@ module _ {K : Type 0} {m : Kind K} (laws : Laws m) (zero_least : ZeroLeast m) {t
         record {
           station = t;
           is = d.predecessor ∙ sym (ap (λ (o : Offer K). o.predecessor) l.3);
-          earlier = omega arith;
-          link = l.0;
-          laid = l.1;
-          leaves = l.2;
-          ends = ap (λ (o : Offer K). o.station) l.3 ∙ d.here;
-          costs_that = rw (keeps t before, d.cost) (ap (λ (o : Offer K). m.rank o.cost) l.3);
+          by = record {
+            station = rw (sym l.2) (workable.between l.0 l.1).0;
+            rises = omega arith;
+            link = l.0;
+            laid = l.1;
+            starts = l.2;
+            ends = ap (λ (o : Offer K). o.station) l.3 ∙ d.here;
+            tight = rw (keeps t before, d.cost) (ap (λ (o : Offer K). m.rank o.cost) l.3);
+          };
         }
 
   labels_of_plain : {xs : List ℕ} {s : State K} → Reached m task xs s → Labels m task s
@@ -120,3 +125,35 @@ module _ {K : Type 0} {m : Kind K} (laws : Laws m) (zero_least : ZeroLeast m) {t
       (λ d. earlier_moved reached lowest (labels_of_plain reached) v
       (subst (λ (method : Method). Moved m (taking s t) (by_method m task s t method) v (followed m task s t)) is_plain d))
       ((follows_all m (offers m task s t) (taking s t)).fate v)
+
+  -- the order of taking is a height in which the row descends
+  follows_given : {xs : List ℕ} {s : State K} → Labels m task s → (v p : ℕ) → s.row.predecessors v ≡ Some p → ((v ≢ task.source) → Below m (s.row.costs v) m.far → Earlier xs s v)
+      → Follows m task.network s.row (λ u. when u xs) p v
+  follows_given {xs} {s} labels v p is earlier =
+      let ne : v ≢ task.source = λ e. absurd (cc (ap s.row.predecessors e, labels.source_none, is)) in
+      let near : Same m (s.row.costs v) m.far → ⊥ = λ far. absurd (cc (labels.far_none v far, is)) in
+      let most = at_most_far laws (s.row.costs v) in
+      let e = earlier ne (omega arith) in
+      let same : e.station ≡ p = cc (e.is, is) in
+      subst (λ (q : ℕ). Follows m task.network s.row (λ u. when u xs) q v) same e.by
+
+  plain_descends : {xs : List ℕ} {s : State K} → Reached m task xs s → Descends m task.network task.source s.row (λ v. when v xs)
+  plain_descends {xs} {s} reached =
+      let labels = labels_of_plain reached in
+      record {
+        zero_at_source = ap m.rank labels.source;
+        follows = λ v p there is. follows_given labels v p is (earlier_reached reached v);
+        some = λ v there ne near. let e = earlier_reached reached v ne near in (e.station, e.is);
+      }
+
+  -- so plain's row is right, and its predecessors lead along least routes
+  pub plain_right : {xs : List ℕ} {s : State K} → Run m task xs s → Right m task.network task.source s.row
+  plain_right = right_at_end laws zero_least task workable (λ other. absurd (other is_plain)) (λ pruned. absurd (cc (is_plain, pruned)))
+
+  pub plain_reach : {xs : List ℕ} {s : State K} → Run m task xs s → (B : ℕ) → B < task.network.stations → Below m (s.row.costs B) m.far → (ys : List ℕ) × Chain s.row task.source B ys
+  plain_reach run B there near = reach laws workable.source_there (plain_descends run.reached) B there near
+
+  pub plain_route : {xs : List ℕ} {s : State K} → Run m task xs s → (B : ℕ) (ys : List ℕ) → B < task.network.stations → Chain s.row task.source B ys → LeastRoute m task.network task.source s.row B ys
+  plain_route run B ys there chain = route laws workable.source_there (plain_descends run.reached) there chain
+
+pub ruleset by_plain = (plain_right, plain_reach, plain_route)

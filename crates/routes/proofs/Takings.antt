@@ -1,8 +1,8 @@
 -- How stations stand, and how many were taken, at each state that is reached.
-use Rattle.std.proofs.Common.{◌≡◌, ◌≢◌, ℕ, ◌+◌, ◌<◌, ◌≤◌, ◌⊎◌, List, [], ◌∷◌, ◌++◌, cond, length, min, nat_lt, arith, ◌==◌, None}
+use Rattle.std.proofs.Common.{◌≡◌, ◌≢◌, ℕ, zero, suc, ◌+◌, ◌<◌, ◌≤◌, ◌⊎◌, List, [], ◌∷◌, ◌++◌, cond, length, min, nat_lt, arith, ◌==◌, None, ⊎_elim, subst, append_assoc}
 use Rattle.std.proofs.lemmas.Bool.{cases_eq}
 use Rattle.std.proofs.lemmas.Bool.Decides.{nat_tests}
-use Rattle.std.proofs.lemmas.List.{length_push}
+use Rattle.std.proofs.lemmas.List.{length_push, append-nil}
 use Rattle.std.proofs.lemmas.List.Sums.{sum_by_push}
 use Rattle.cost.specs.Kind.{Kind, FAR}
 use Rattle.cost.specs.Laws.{Laws, ZeroLeast}
@@ -83,7 +83,7 @@ module _ {K : Type 0} {m : Kind K} {task : Task K} (laws : Laws m) (zero_least :
       record { cost = kept.cost; predecessor = kept.predecessor; first = kept.first }
 
   -- the contracts
-  pub goes_on : {xs : List ℕ} {s : State K} → Reached m task xs s → Nobody s.queue ⊎ ((t : ℕ) × Lowest s.queue t)
+  goes_on : {xs : List ℕ} {s : State K} → Reached m task xs s → Nobody s.queue ⊎ ((t : ℕ) × Lowest s.queue t)
   goes_on {xs} {s} reached = lowest_found s.queue task.network.stations (λ v y w. ((reached_held reached).1.waiting v y w).1)
 
   pub none_twice : {xs : List ℕ} {s : State K} → Reached m task xs s → NoneTwice xs
@@ -99,6 +99,20 @@ module _ {K : Type 0} {m : Kind K} {task : Task K} (laws : Laws m) (zero_least :
   pub at_most_stations : {xs : List ℕ} {s : State K} → Reached m task xs s → length xs ≤ task.network.stations
   at_most_stations {xs} {s} reached =
       omega (arith, at_most_below_far reached, counted_few (λ v. nat_lt (m.rank (s.row.costs v)) FAR) task.network.stations)
+
+  -- so a run that was begun comes to its end
+  to_the_end : (b : ℕ) {xs : List ℕ} {s : State K} → Reached m task xs s → task.network.stations < length xs + b → (ys : List ℕ) × (e : State K) × Run m task (xs ++ ys) e
+  to_the_end zero {xs} {s} reached room = let most = at_most_stations reached in absurd (omega arith)
+  to_the_end (suc b) {xs} {s} reached room =
+      ⊎_elim
+      (λ over. ([], s, rw (append-nil xs) (record { reached = reached; over = over })))
+      (λ low.
+      let rest = to_the_end b (next reached low.1) (omega (arith, length_push xs low.0)) in
+      (low.0 ∷ rest.0, rest.1, subst (λ (zs : List ℕ). Run m task zs rest.1) (append_assoc xs (low.0 ∷ []) rest.0) rest.2))
+      (goes_on reached)
+
+  pub ends_once : {xs : List ℕ} {s : State K} → Reached m task xs s → (ys : List ℕ) × (e : State K) × Run m task (xs ++ ys) e
+  ends_once reached = to_the_end (suc task.network.stations) reached (omega arith)
 
   pub all_below_far : {xs : List ℕ} {s : State K} → task.method ≢ Reuse → Run m task xs s → length xs ≡ below_far m task.network.stations s.row
   all_below_far {xs} {s} other run =
@@ -127,6 +141,6 @@ module _ {K : Type 0} {m : Kind K} {task : Task K} (laws : Laws m) (zero_least :
   run_takes run = omega (arith, all_taken run.reached, some_taken run.reached run.over)
 
 -- what the contracts want
-pub ruleset ends = (goes_on, at_most_stations)
+pub ruleset ends = (ends_once, at_most_stations)
 
 pub ruleset counts = (all_taken, run_takes, at_most_below_far, all_below_far)

@@ -1,8 +1,7 @@
 // Theorems about runs of the methods.
-ghost use Rattle.std.specs.Prelude.{◌≡◌, ℕ, ◌<◌, ◌≤◌, List, length, ◌≢◌, ◌⊎◌};
+ghost use Rattle.std.specs.Prelude.{◌≡◌, ℕ, ◌<◌, ◌≤◌, List, ◌++◌, length, ◌≢◌};
 ghost use Rattle.cost.specs.Kind.{Kind, Below};
 ghost use Rattle.cost.specs.Laws.{Laws, ZeroLeast};
-ghost use Rattle.queue.specs.Meaning.{Nobody, Lowest};
 ghost use Rattle.routes.specs.Row.{Right};
 ghost use Rattle.routes.specs.Chain.{Chain, NoneTwice, LeastRoute};
 ghost use Rattle.routes.specs.Task.{Task, Workable, RowsRight, State};
@@ -11,12 +10,12 @@ ghost use Rattle.routes.specs.declared.method.Method.TheVariants.{Plain, Reuse};
 
 use cost::Cost;
 
-// Every run ends, whatever the rows that it reads: while somebody waits a station can be taken, and none is taken twice.
+// Every run ends, whatever the rows that it reads: no station is taken twice, and what was begun can be brought to its end.
 #[tactic(auto, using(crate::proofs::Takings::ends))]
 pub fn runs_end<K>()
-    ensures goes_on { (m : Kind K) (task : Task K) (xs : List ℕ) (s : State K) → Laws m → ZeroLeast m → Workable task → Reached m task xs s → Nobody s.queue ⊎ ((t : ℕ) × Lowest s.queue t) }
     ensures none_twice { (m : Kind K) (task : Task K) (xs : List ℕ) (s : State K) → Laws m → ZeroLeast m → Workable task → Reached m task xs s → NoneTwice xs }
     ensures at_most { (m : Kind K) (task : Task K) (xs : List ℕ) (s : State K) → Laws m → ZeroLeast m → Workable task → Reached m task xs s → length xs ≤ task.network.stations }
+    ensures ends { (m : Kind K) (task : Task K) (xs : List ℕ) (s : State K) → Laws m → ZeroLeast m → Workable task → Reached m task xs s → (ys : List ℕ) × (e : State K) × Run m task (xs ++ ys) e }
 {
 }
 
@@ -31,6 +30,7 @@ pub fn runs_count<K>()
 }
 
 // Every run of every method ends in a right row, if the rows that it reads are right.
+#[tactic(auto, using(crate::proofs::Ends::runs_right))]
 pub fn runs_end_right<K: Cost>()
     ensures right { (task : Task K) (xs : List ℕ) (s : State K) → Workable task → RowsRight K.kind task → Run K.kind task xs s → Right K.kind task.network task.source s.row }
 {
@@ -38,6 +38,7 @@ pub fn runs_end_right<K: Cost>()
 
 // Runs of plain end in a right row, along whose predecessors there are walks of just its costs past no station twice, for every kind that
 // shows the laws and has no cost below zero. No strict law is used.
+#[tactic(auto, using(crate::proofs::PlainOrder::by_plain))]
 pub fn plain_needs_no_strict_law<K>()
     ensures right { (m : Kind K) (task : Task K) (xs : List ℕ) (s : State K) → Laws m → ZeroLeast m → Workable task → task.method ≡ Plain → Run m task xs s → Right m task.network task.source s.row }
     ensures reach { (m : Kind K) (task : Task K) (xs : List ℕ) (s : State K) → Laws m → ZeroLeast m → Workable task → task.method ≡ Plain → Run m task xs s → (B : ℕ) → B < task.network.stations → Below m (s.row.costs B) m.far → (ys : List ℕ) × Chain s.row task.source B ys }
