@@ -1,13 +1,14 @@
 -- What becomes of each station when offers are made one after the other: it keeps all it has, or it has what one of them said.
-use Rattle.std.proofs.Common.{◌≡◌, ℕ, suc, ◌<◌, Bool, true, false, ◌⊎◌, inl, inr, ⊎_elim, List, [], ◌∷◌, Option, Some, None, is_some, if◌then◌else◌, ◌||◌, nat_lt, refl, sym, ap, subst, arith, ◌∙◌}
+use Rattle.std.proofs.Common.{◌≡◌, ℕ, suc, ◌<◌, Bool, true, false, ◌⊎◌, inl, inr, ⊎_elim, List, [], ◌∷◌, Option, Some, None, is_some, if◌then◌else◌, ◌||◌, ◌==◌, nat_lt, refl, sym, ap, subst, arith, ◌∙◌}
 use Rattle.std.specs.List.{Contains}
 use Rattle.std.proofs.lemmas.Bool.{cases_eq, cases_lt, cases_Bool, lt-ltb, le-ltb, true≢false}
 use Rattle.std.proofs.lemmas.Bool.Decides.{nat_tests}
 use Rattle.cost.specs.Kind.{Kind, AtMost, Below}
 use Rattle.queue.specs.Calls.{at_rank, after_put}
-use Rattle.queue.specs.Meaning.{Meaning, Waits}
+use Rattle.queue.specs.Meaning.{Meaning, Waits, Lowest}
 use Rattle.routes.proofs.Members.{in_none, in_first, in_later, in_cases}
 use Rattle.routes.specs.Task.{State}
+use Rattle.routes.specs.Runs.{taking}
 use Rattle.routes.specs.Offers.{Offer, taken_up, offered, offered_all}
 
 -- whether a station waits
@@ -35,6 +36,10 @@ pub record Moved {K : Type 0} (m : Kind K) (s : State K) (os : List (Offer K)) (
   pub predecessor : s'.row.predecessors v ≡ offer.predecessor
   pub first : s'.firsts v ≡ offer.first
   pub waiting : (waits s' v ≡ true) ⊎ ((offer.puts ≡ false) × (waits s' v ≡ false) × (waits s v ≡ false))
+
+-- a station that is taken waits no more, and the others do as before
+pub waits_taking : {K : Type 0} (s : State K) (t v : ℕ) → waits (taking s t) v ≡ (if v == t then false else waits s v)
+waits_taking s t v = grind (arith, nat_tests)
 
 ranks_if : (b : Bool) (p q : Meaning) (v : ℕ) → (if b then p else q).ranks v ≡ (if b then p.ranks v else q.ranks v)
 ranks_if true p q v = refl
@@ -182,3 +187,19 @@ module _ {K : Type 0} (m : Kind K) where
   pub follows_all : (os : List (Offer K)) (s : State K) → Follows s os (offered_all m s os)
   follows_all [] s = record { fate = λ v. inl (all_kept s v); at_most = λ o none. absurd (in_none none); ranked = λ r. r }
   follows_all (o ∷ os) s = then_rest (follows_one s o) (follows_all os (offered m s o))
+
+  -- who waits still does so at its label's rank once a station was taken
+  pub ranked_taking : (s : State K) (t : ℕ) → Ranked m s → Ranked m (taking s t)
+  ranked_taking s t ranked v x w = let r = ranked v x in grind (arith, nat_tests)
+
+  -- one of the lowest rank has one of the lowest labels of those that wait
+  lowest_of : (s : State K) (t : ℕ) → Ranked m s → Lowest s.queue t → (v : ℕ) (q : Option ℕ) → s.queue.ranks v ≡ q → is_some q ≡ true → AtMost m (s.row.costs t) (s.row.costs v)
+  lowest_of s t ranked low v None at some = absurd (true≢false (sym some))
+  lowest_of s t ranked low v (Some x) at some =
+      let here = ranked t low.rank low.waits in
+      let there = ranked v x at in
+      let le = low.least v x at in
+      omega arith
+
+  pub lowest_label : (s : State K) (t : ℕ) → Ranked m s → Lowest s.queue t → (v : ℕ) → waits s v ≡ true → AtMost m (s.row.costs t) (s.row.costs v)
+  lowest_label s t ranked low v = lowest_of s t ranked low v (s.queue.ranks v) refl

@@ -13,7 +13,8 @@ pub mod FairOffers
 pub mod Ends
 pub mod Counting
 pub mod LowestFound
+pub mod MadeOffers
 pub mod OnwardOffers
-pub mod Offered
+pub mod Standing
 pub mod Takings
 pub mod PlainOrder

@@ -1,5 +1,5 @@
--- How stations stand, and how many were taken, at each state that is reached.
-use Rattle.std.proofs.Common.{◌≡◌, ◌≢◌, ℕ, zero, suc, ◌+◌, ◌<◌, ◌≤◌, ◌⊎◌, List, [], ◌∷◌, ◌++◌, cond, length, min, nat_lt, arith, ◌==◌, None, ⊎_elim, subst, append_assoc}
+-- No station is taken twice, so every run ends; and how many are taken.
+use Rattle.std.proofs.Common.{◌≡◌, ◌≢◌, ℕ, zero, suc, ◌+◌, ◌<◌, ◌≤◌, ◌⊎◌, List, [], ◌∷◌, ◌++◌, cond, length, min, nat_lt, arith, ◌==◌, None, ⊎_elim, refl, ap, ◌∙◌, is_some, subst, append_assoc}
 use Rattle.std.proofs.lemmas.Bool.{cases_eq}
 use Rattle.std.proofs.lemmas.Bool.Decides.{nat_tests}
 use Rattle.std.proofs.lemmas.List.{length_push, append-nil}
@@ -9,6 +9,7 @@ use Rattle.cost.specs.Laws.{Laws, ZeroLeast}
 use Rattle.queue.specs.Drained.{times}
 use Rattle.queue.specs.Meaning.{Waits, Nobody, Lowest, most_taken}
 use Rattle.routes.specs.Chain.{NoneTwice}
+use Rattle.routes.specs.Offers.{Offer, offered, offered_all}
 use Rattle.routes.specs.Methods.{offers}
 use Rattle.routes.specs.Runs.{Reached, Run, start, next, taking, followed, below_far}
 use Rattle.routes.specs.Task.{Task, State, Workable, begun}
@@ -16,85 +17,49 @@ use Rattle.routes.specs.declared.method.Method.TheVariants.{Reuse}
 use Rattle.routes.proofs.Counting.{counted_few, at_most_counted, at_least_counted}
 use Rattle.routes.proofs.OnwardOffers.{offers_onward}
 use Rattle.routes.proofs.LowestFound.{lowest_found}
-use Rattle.routes.proofs.Offered.{Held, Kept, all_held, all_keep, same_taken}
-
--- how often a station stands in a list that is longer by one
-pub times_push : (v : ℕ) (xs : List ℕ) (t : ℕ) → times v (xs ++ t ∷ []) ≡ times v xs + cond (t == v) 1 0
-times_push v xs t = sum_by_push (λ u. cond (u == v) 1 0) xs t
-
--- a station of the lowest rank is taken
-taking_held : {K : Type 0} {m : Kind K} {n : ℕ} {P : Type 0} {xs : List ℕ} {x : ℕ} {s : State K} {t : ℕ}
-    → Held m n P xs x s → Lowest s.queue t → Held m n P (xs ++ t ∷ []) (m.rank (s.row.costs t)) (taking s t)
-taking_held {K} {m} {n} {P} {xs} {x} {s} {t} held low =
-    let here = held.waiting t low.rank low.waits in
-    let waits = low.waits in
-    record {
-      none_twice = λ v. let more = times_push v xs t in let once = held.none_twice v in let old = held.settled v in grind (arith, nat_tests, cases_eq t v);
-      settled = λ v in_xs. let more = times_push v xs t in let old = held.settled v in (
-        grind (arith, nat_tests, cases_eq t v),
-        grind (arith, nat_tests, cases_eq t v, here),
-        grind (arith, nat_tests, cases_eq t v, here),
-        grind (arith, nat_tests, cases_eq t v, here),
-      );
-      waiting = λ v y now.
-          let still : Waits s.queue v y = grind (arith, nat_tests, cases_eq t v) in
-          let old = held.waiting v y still in
-          (old.0, old.1, old.2, omega (arith, low.least v y still, old.0, here.0));
-      whole = λ p v far idle. let more = times_push v xs t in let old = held.whole p v in grind (arith, nat_tests, cases_eq t v);
-    }
+use Rattle.routes.proofs.Follows.{Kept, follows_all}
+use Rattle.routes.proofs.Standing.{Standing, standing_taking, standing_followed, taken_kept}
 
 module _ {K : Type 0} {m : Kind K} {task : Task K} (laws : Laws m) (zero_least : ZeroLeast m) (workable : Workable task) where
-  -- how stations stand when xs were taken, none at a higher rank than x
-  abbrev Now : List ℕ → ℕ → State K → Type 0
-  Now = Held m task.network.stations (task.method ≢ Reuse)
+  -- at the start the source waits, and nobody was taken
+  begun_standing : Standing m task.network.stations (task.method ≢ Reuse) [] 0 (begun m task)
+  begun_standing =
+      let fits = laws.rank_fits m.zero in
+      let far = laws.far_rank in
+      let not_far = laws.zero_is_not_far in
+      let there = workable.source_there in
+      record {
+        none_twice = λ v. omega arith;
+        taken = λ v in_xs. absurd (omega arith);
+        waiting = λ v yes. (grind (arith, nat_tests, cases_eq v task.source), grind (arith, nat_tests, cases_eq v task.source), omega arith);
+        ranked = λ v y w. grind (arith, nat_tests);
+        whole = λ p v near rests. grind (arith, nat_tests, cases_eq v task.source);
+      }
 
-  begun_held : Now [] 0 (begun m task)
-  begun_held = let zero_fits = laws.rank_fits m.zero in let far = laws.far_rank in let below = laws.zero_is_not_far in let there = workable.source_there in record {
-    none_twice = λ v. omega arith;
-    settled = λ v in_xs. absurd (omega arith);
-    waiting = λ v y now. (
-      grind (arith, nat_tests, cases_eq v task.source),
-      grind (arith, nat_tests, cases_eq v task.source),
-      grind (arith, nat_tests, cases_eq v task.source),
-      omega arith,
-    );
-    whole = λ p v low idle. grind (arith, nat_tests, cases_eq v task.source);
-  }
+  -- so at every state that is reached
+  pub reached_standing : {xs : List ℕ} {s : State K} → Reached m task xs s → (x : ℕ) × Standing m task.network.stations (task.method ≢ Reuse) xs x s
+  reached_standing start = (0, begun_standing)
+  reached_standing (next {xs} {s} {t} reached low) =
+      (m.rank (s.row.costs t), standing_followed (standing_taking (reached_standing reached).1 low) (follows_all m (offers m task s t) (taking s t)) (offers_onward laws zero_least workable s t) laws.rank_fits)
 
-  pub reached_held : {xs : List ℕ} {s : State K} → Reached m task xs s → (x : ℕ) × Now xs x s
-  reached_held start = (0, begun_held)
-  reached_held (next {xs} {s} {t} reached low) =
-      (m.rank (s.row.costs t), all_held laws.rank_fits (taking s t) (offers m task s t) (offers_onward laws zero_least s t task workable) (taking_held (reached_held reached).1 low))
-
-  -- a station that was taken does not wait, is below FAR, and its label is at most each label that waits
-  pub taken_first : {xs : List ℕ} {s : State K} → Reached m task xs s → (v : ℕ) → 1 ≤ times v xs
-      → (s.queue.ranks v ≡ None) × (m.rank (s.row.costs v) < FAR) × ((u y : ℕ) → Waits s.queue u y → m.rank (s.row.costs v) ≤ m.rank (s.row.costs u))
-  taken_first {xs} {s} reached v in_xs =
-      let held = (reached_held reached).1 in
-      let settled = held.settled v in_xs in
-      (settled.0, settled.2, λ u y w. omega (arith, (held.waiting u y w).3, settled.3))
-
-  -- and all that the state has of it stays when the next is taken, as does all that it has of that
-  pub taken_keeps : {xs : List ℕ} {s : State K} {t : ℕ} → Reached m task xs s → Lowest s.queue t → (v : ℕ) → 1 ≤ times v (xs ++ t ∷ [])
-      → Kept s (followed m task s t) v
+  -- what the state has of a station that was taken stays when the next is taken, as does all that it has of that
+  pub taken_keeps : {xs : List ℕ} {s : State K} {t : ℕ} → Reached m task xs s → Lowest s.queue t → (v : ℕ) → 1 ≤ times v (xs ++ t ∷ []) → Kept (taking s t) v (followed m task s t)
   taken_keeps {xs} {s} {t} reached low v in_xs =
-      let held = taking_held (reached_held reached).1 low in
-      let kept = all_keep v (taking s t) (offers m task s t) (held.settled v in_xs).3 (offers_onward laws zero_least s t task workable) in
-      record { cost = kept.cost; predecessor = kept.predecessor; first = kept.first }
+      let standing = standing_taking (reached_standing reached).1 low in
+      taken_kept standing (follows_all m (offers m task s t) (taking s t)) (offers_onward laws zero_least workable s t) v (standing.taken v in_xs).3
 
-  -- the contracts
   goes_on : {xs : List ℕ} {s : State K} → Reached m task xs s → Nobody s.queue ⊎ ((t : ℕ) × Lowest s.queue t)
-  goes_on {xs} {s} reached = lowest_found s.queue task.network.stations (λ v y w. ((reached_held reached).1.waiting v y w).1)
+  goes_on {xs} {s} reached = lowest_found s.queue task.network.stations (λ v y w. ((reached_standing reached).1.waiting v (ap is_some w)).0)
 
   pub none_twice : {xs : List ℕ} {s : State K} → Reached m task xs s → NoneTwice xs
-  none_twice reached = (reached_held reached).1.none_twice
+  none_twice reached = (reached_standing reached).1.none_twice
 
   pub at_most_below_far : {xs : List ℕ} {s : State K} → Reached m task xs s → length xs ≤ below_far m task.network.stations s.row
   at_most_below_far {xs} {s} reached =
-      let held = (reached_held reached).1 in
+      let standing = (reached_standing reached).1 in
       at_most_counted (λ v. nat_lt (m.rank (s.row.costs v)) FAR) xs task.network.stations
-      (λ v. let once = held.none_twice v in let settled = held.settled v in grind (arith, nat_tests))
-      (λ v late. let settled = held.settled v in grind arith)
+      (λ v. let once = standing.none_twice v in let taken = standing.taken v in grind (arith, nat_tests))
+      (λ v late. let taken = standing.taken v in grind arith)
 
   pub at_most_stations : {xs : List ℕ} {s : State K} → Reached m task xs s → length xs ≤ task.network.stations
   at_most_stations {xs} {s} reached =
@@ -116,18 +81,22 @@ module _ {K : Type 0} {m : Kind K} {task : Task K} (laws : Laws m) (zero_least :
 
   pub all_below_far : {xs : List ℕ} {s : State K} → task.method ≢ Reuse → Run m task xs s → length xs ≡ below_far m task.network.stations s.row
   all_below_far {xs} {s} other run =
-      let held = (reached_held run.reached).1 in
+      let standing = (reached_standing run.reached).1 in
       let most = at_most_below_far run.reached in
       let least = at_least_counted (λ v. nat_lt (m.rank (s.row.costs v)) FAR) xs task.network.stations
-      (λ v. let whole = held.whole other v in let over = run.over v in grind (arith, nat_tests)) in
+      (λ v. let whole = standing.whole other v in let over = ap is_some (run.over v) in grind (arith, nat_tests)) in
       omega arith
 
-  -- the number taken
+  -- the number taken, which offers leave as it is
+  same_taken : (s : State K) (os : List (Offer K)) → (offered_all m s os).queue.taken ≡ s.queue.taken
+  same_taken s [] = refl
+  same_taken s (o ∷ os) = same_taken (offered m s o) os ∙ grind (arith, nat_tests)
+
   taken_to_most : {xs : List ℕ} {s : State K} → Reached m task xs s → s.queue.taken ≡ min (length xs) most_taken
   taken_to_most start = omega arith
   taken_to_most (next {xs} {s} {t} reached low) =
       let so_far = taken_to_most reached in
-      omega (arith, same_taken m (taking s t) (offers m task s t), length_push xs t)
+      omega (arith, same_taken (taking s t) (offers m task s t), length_push xs t)
 
   pub all_taken : {xs : List ℕ} {s : State K} → Reached m task xs s → s.queue.taken ≡ length xs
   all_taken reached = omega (arith, taken_to_most reached, at_most_stations reached, workable.few)
