@@ -16,7 +16,7 @@ use Rattle.routes.specs.Row.{Row}
 use Rattle.routes.specs.Walk.{Walk, stay, on, stations}
 
 -- a link leads from station p to v, up in height, on which p's cost becomes v's
-pub record Follows {K : Type 0} (m : Kind K) (net : Network K) (row : Row K) (height : ℕ → ℕ) (p v : ℕ) : Type 0 where
+pub record TightLink {K : Type 0} (m : Kind K) (net : Network K) (row : Row K) (height : ℕ → ℕ) (p v : ℕ) : Type 0 where
   pub station : p < net.stations
   pub rises : height p < height v
   pub link : Link K
@@ -25,10 +25,10 @@ pub record Follows {K : Type 0} (m : Kind K) (net : Network K) (row : Row K) (he
   pub ends : link.to ≡ v
   pub tight : Same m (m.joined (row.costs p) link.cost) (row.costs v)
 
--- the source costs zero, each station follows the predecessor that it has, and each below FAR but the source has one
+-- the source costs zero, a tight link leads up to each station from the predecessor that it has, and each below FAR but the source has one
 pub record Descends {K : Type 0} (m : Kind K) (net : Network K) (A : ℕ) (row : Row K) (height : ℕ → ℕ) : Type 0 where
   pub zero_at_source : Same m (row.costs A) m.zero
-  pub follows : (v p : ℕ) → v < net.stations → row.predecessors v ≡ Some p → Follows m net row height p v
+  pub by_link : (v p : ℕ) → v < net.stations → row.predecessors v ≡ Some p → TightLink m net row height p v
   pub some : (v : ℕ) → v < net.stations → (v ≡ A → ⊥) → Below m (row.costs v) m.far → (p : ℕ) × (row.predecessors v ≡ Some p)
 
 -- numbers that stand in a list at most once, all below n, are at most n
@@ -63,7 +63,7 @@ module _ {K : Type 0} {m : Kind K} (laws : Laws m) {net : Network K} {A : ℕ} {
   walked : {B : ℕ} {xs : List ℕ} → B < net.stations → Chain row A B xs → Walked m net A row B xs
   walked within begin = record { cost = m.zero; walk = stay; costs_that = sym descends.zero_at_source; passes = refl }
   walked {B} within (after {p = p} {xs = xs} chain is) =
-      let f = descends.follows B p within is in
+      let f = descends.by_link B p within is in
       let before = subst (λ (z : ℕ). Walked m net A row z xs) (sym f.starts) (walked f.station chain) in
       let tight_from = subst (λ (z : ℕ). Same m (m.joined (row.costs z) f.link.cost) (row.costs B)) (sym f.starts) f.tight in
       let tight = subst (λ (z : ℕ). Same m (m.joined (row.costs f.link.from) f.link.cost) (row.costs z)) (sym f.ends) tight_from in
@@ -74,7 +74,7 @@ module _ {K : Type 0} {m : Kind K} (laws : Laws m) {net : Network K} {A : ℕ} {
       → (times s xs ≤ cond (nat_lt s net.stations) 1 0) × ((s ≡ B → ⊥) → height B ≤ height s → times s xs ≡ 0)
   counted within begin s = (grind (arith, nat_tests), λ other high. grind (arith, nat_tests))
   counted {B} within (after {p = p} {xs = xs} chain is) s =
-      let f = descends.follows B p within is in
+      let f = descends.by_link B p within is in
       let rest = counted f.station chain s in
       let one_more = sum_by_push (λ x. cond (x == s) 1 0) xs B in
       let none : height B ≤ height s → times s xs ≡ 0 = λ high. rest.1 (λ same. let e = ap height same in omega (arith, f.rises)) (omega (arith, f.rises)) in
@@ -91,7 +91,7 @@ module _ {K : Type 0} {m : Kind K} (laws : Laws m) {net : Network K} {A : ℕ} {
         walk = walk.walk;
         costs_that = walk.costs_that;
         passes = walk.passes;
-        none_twice = λ s. let c = (counted within chain s).0 in grind (arith, nat_tests);
+        none_twice = record { at_most_once = λ s. let c = (counted within chain s).0 in grind (arith, nat_tests) };
         few = at_most_all net.stations xs (λ s. (counted within chain s).0);
       }
 
@@ -103,7 +103,7 @@ module _ {K : Type 0} {m : Kind K} (laws : Laws m) {net : Network K} {A : ℕ} {
       (λ e. subst (λ (z : ℕ). (xs : List ℕ) × Chain row A z xs) (sym e) (A ∷ [], begin))
       (λ other.
       let given = descends.some B within other near in
-      let f = descends.follows B given.0 within given.1 in
+      let f = descends.by_link B given.0 within given.1 in
       let far = far_before laws (row.costs given.0) f.link.cost in
       let fits = at_most_far laws (row.costs given.0) in
       let tight = f.tight in

@@ -1,13 +1,14 @@
 -- No station of a row fails exactly when the row is right.
-use Rattle.std.proofs.Common.{◌≡◌, ℕ, zero, ◌<◌, ◌⊎◌, inl, inr, ⊎_elim, Option, Some, None, refl, subst, sym, ◌∙◌, arith}
+use Rattle.std.proofs.Common.{◌≡◌, ℕ, ◌<◌, ◌⊎◌, inl, inr, ⊎_elim, Option, Some, None, refl, subst, sym, ◌∙◌, arith}
 use Rattle.std.proofs.lemmas.Bool.{cases_eq}
 use Rattle.std.specs.List.{Contains}
 use Rattle.cost.specs.Kind.{Kind, Same, AtMost, Below}
 use Rattle.cost.specs.Laws.{Laws, Strict, ZeroLeast}
 use Rattle.cost.specs.declared.link.Link.{Link}
-use Rattle.routes.proofs.Chains.{Follows, Descends, route, reach}
+use Rattle.routes.proofs.Chains.{TightLink, Descends, route, reach}
 use Rattle.routes.proofs.Costs.{far_before, at_most_far, zero_least_from_strict}
-use Rattle.routes.proofs.JoinedWalks.{LastLink, link_of_last, last_ends, last_same, costs_from_last, goes_on, goes_on_to}
+use Rattle.routes.proofs.JoinedWalks.{LastLink, link_of_last, last_ends, last_same, goes_on_to}
+use Rattle.routes.proofs.RightRows.{no_better}
 use Rattle.routes.proofs.Tested.{Holds, passes_from_holds, holds_from_passes}
 use Rattle.routes.specs.Fails.{NoneFails}
 use Rattle.routes.specs.Network.{Network, Between, OnePerPair, NoneFree}
@@ -27,19 +28,9 @@ joins_from_below {K} {m} laws strict a b c same near free =
 module _ {K : Type 0} {m : Kind K} (laws : Laws m) {net : Network K} {A : ℕ} {row : Row K} where
   -- in a right row
   module _ (between : Between net) (right : Right m net A row) where
-    -- no cost is above that of a station from which a link leads, joined with it
-    pub at_most_over : (l : Link K) → Contains net.links l → AtMost m (row.costs l.to) (m.joined (row.costs l.from) l.cost)
-    at_most_over l laid =
-        let runs = between l laid in
-        let least_from = right.least l.from runs.0 in
-        let least_to = right.least l.to runs.1 in
-        ⊎_elim
-        (λ far. let f = far_before laws (row.costs l.from) l.cost far in let t = at_most_far laws (row.costs l.to) in omega arith)
-        (λ near. let walk = costs_from_last (goes_on laws l (least_from.one_costs_it near) laid) in omega (arith, least_to.none_less walk.walk, walk.same))
-        (cases_eq (m.rank (row.costs l.from)) (m.rank m.far))
-
+    -- a link offers nothing better to where it ends
     at_most_into : (l : Link K) (B : ℕ) → Contains net.links l → l.to ≡ B → AtMost m (row.costs B) (m.joined (row.costs l.from) l.cost)
-    at_most_into l B laid ends = subst (λ (z : ℕ). AtMost m (row.costs z) (m.joined (row.costs l.from) l.cost)) ends (at_most_over l laid)
+    at_most_into l B laid ends = subst (λ (z : ℕ). AtMost m (row.costs z) (m.joined (row.costs l.from) l.cost)) ends (no_better laws between right l laid)
 
     -- a predecessor's cost, joined with the link by which a walk of least cost goes on from it, is the cost of the station after it
     pub tight_last : {B p : ℕ} (by : LastLink m net A p B (row.costs B)) → Same m (m.joined (row.costs p) by.link.cost) (row.costs B)
@@ -86,9 +77,9 @@ module _ {K : Type 0} {m : Kind K} (laws : Laws m) {net : Network K} {A : ℕ} {
         omega (arith, laws.join_keeps_right (row.costs l.from) c l.cost (none_less walk))
 
     module _ (strict : Strict m) (none_free : NoneFree m net) where
-      -- each station follows its predecessor
-      follows : (B p : ℕ) → B < net.stations → row.predecessors B ≡ Some p → Follows m net row (λ s. m.rank (row.costs s)) p B
-      follows B p within is =
+      -- a tight link leads up to each station from its predecessor
+      by_link : (B p : ℕ) → B < net.stations → row.predecessors B ≡ Some p → TightLink m net row (λ s. m.rank (row.costs s)) p B
+      by_link B p within is =
           let h = holds B within in
           let by = h.linked p is in
           let tight = subst (λ (z : ℕ). Same m (m.joined (row.costs z) by.link.cost) (row.costs B)) by.starts (h.tight p is by.link by.laid by.starts by.ends) in
@@ -101,7 +92,7 @@ module _ {K : Type 0} {m : Kind K} (laws : Laws m) {net : Network K} {A : ℕ} {
       descends =
           record {
             zero_at_source = (holds A source).zero_at_source refl;
-            follows = follows;
+            by_link = by_link;
             some = λ B within other near. ⊎_elim
                 (λ none. absurd (omega (arith, ((holds B within).none_at_far other).0 none, laws.far_rank)))
                 (λ given. given)
@@ -125,7 +116,7 @@ module _ {K : Type 0} {m : Kind K} (laws : Laws m) {net : Network K} {A : ℕ} {
                   ⊎_elim h.none_at_source (λ far. ⊎_elim h.none_at_source (λ other. (h.none_at_far other).1 (omega (arith, laws.far_rank))) (cases_eq B A)),
                 );
             given = λ B p within is.
-                let f = follows B p within is in
+                let f = by_link B p within is in
                 let walk = walked p f.station (λ far. omega (arith, f.rises, at_most_far laws (row.costs B))) in
                 last_same (goes_on_to laws f.link walk f.laid f.starts f.ends) f.tight;
           }
@@ -133,10 +124,13 @@ module _ {K : Type 0} {m : Kind K} (laws : Laws m) {net : Network K} {A : ℕ} {
 -- the two theorems
 pub right_passes : {K : Type 0} {m : Kind K} → Laws m → Strict m → (net : Network K) (A : ℕ) (row : Row K) → Between net → OnePerPair net
     → A < net.stations → Right m net A row → NoneFails m net A row
-right_passes {K} {m} laws strict net A row between one source right B cause within =
-    passes_from_holds m net A row B (right_holds laws between right (zero_least_from_strict laws strict) one source B within) cause
+right_passes {K} {m} laws strict net A row between one source right =
+    record { passes = λ B cause within. passes_from_holds m net A row B (right_holds laws between right (zero_least_from_strict laws strict) one source B within) cause }
 
 pub passes_right : {K : Type 0} {m : Kind K} → Laws m → Strict m → (net : Network K) (A : ℕ) (row : Row K) → Between net → NoneFree m net
     → A < net.stations → NoneFails m net A row → Right m net A row
-passes_right {K} {m} laws strict net A row between none_free source passes =
-    holds_right laws between source (λ B within. holds_from_passes m net A row B (λ cause. passes B cause within)) strict none_free
+passes_right {K} {m} laws strict net A row between none_free source none =
+    holds_right laws between source (λ B within. holds_from_passes m net A row B (λ cause. none.passes B cause within)) strict none_free
+
+-- what the contract wants
+pub ruleset checked = (right_passes, passes_right)

@@ -1,7 +1,7 @@
 -- What the laws say of joins, in the forms that walks want. No strict law is used, but by the last lemma.
-use Rattle.std.proofs.Common.{◌≡◌, ℕ, ◌≤◌, ◌<◌, sym, arith}
+use Rattle.std.proofs.Common.{arith}
 use Rattle.std.proofs.lemmas.Bool.{cases_eq}
-use Rattle.cost.specs.Kind.{Kind, FAR, Same, AtMost, Below}
+use Rattle.cost.specs.Kind.{Kind, Same, AtMost}
 use Rattle.cost.specs.Laws.{Laws, Strict, ZeroLeast}
 
 module _ {K : Type 0} {m : Kind K} (laws : Laws m) where

@@ -1,19 +1,19 @@
 -- Every run ends in a right row: nobody waits any more, so no walk is cheaper than a label.
-use Rattle.std.proofs.Common.{◌≡◌, ℕ, suc, ◌<◌, ◌≤◌, Bool, true, false, ◌⊎◌, inl, inr, ⊎_elim, List, Option, Some, None, is_some, refl, ap, subst, sym, ◌∙◌, arith, ◌≢◌}
+use Rattle.std.proofs.Common.{◌≡◌, ℕ, suc, ◌⊎◌, inl, inr, ⊎_elim, List, Some, None, is_some, refl, ap, subst, sym, ◌∙◌, arith, ◌≢◌}
 use Rattle.std.proofs.lemmas.Bool.{cases_eq, true≢false}
 use Rattle.std.proofs.lemmas.Bool.Decides.{nat_tests}
 use Rattle.cost.specs.Kind.{Kind, FAR, Same, AtMost, Below}
 use Rattle.cost.specs.Laws.{Laws, Strict, ZeroLeast}
-use Rattle.queue.specs.Meaning.{Waits, Nobody}
+use Rattle.queue.specs.Meaning.{Nobody}
 use Rattle.routes.specs.Walk.{Walk, LastBefore}
-use Rattle.routes.specs.Least.{Least}
 use Rattle.routes.specs.Row.{Right}
 use Rattle.routes.specs.Task.{Task, Workable, RowsRight, State, begun}
 use Rattle.routes.specs.Methods.{offers}
 use Rattle.routes.specs.Runs.{taking, Reached, start, next, Run}
 use Rattle.routes.specs.declared.method.Method.TheVariants.{Plain, Prune}
 use Rattle.routes.proofs.Costs.{at_most_far, zero_least_from_strict}
-use Rattle.routes.proofs.Follows.{Ranked, waits, follows_all}
+use Rattle.routes.proofs.Follows.{follows_all}
+use Rattle.routes.proofs.Takings.{reached_standing}
 use Rattle.routes.proofs.Labels.{Labels, walked, cheaper_walks_known}
 use Rattle.routes.proofs.Steps.{labels_followed}
 use Rattle.routes.proofs.FairOffers.{fair_offers}
@@ -23,13 +23,6 @@ module _ {K : Type 0} {m : Kind K} (laws : Laws m) (zero_least : ZeroLeast m) (t
   pub begun_far : (v : ℕ) → (v ≢ task.source) → m.rank ((begun m task).row.costs v) ≡ FAR
   begun_far v ne = let f = laws.far_rank in grind (arith, nat_tests)
 
-  begun_near : (v : ℕ) → waits (begun m task) v ≡ true → Below m ((begun m task).row.costs v) m.far
-  begun_near v w =
-      let not_far = laws.zero_is_not_far in
-      let most = laws.rank_fits m.zero in
-      let f = laws.far_rank in
-      grind (arith, nat_tests)
-
   begun_labels : Labels m task (begun m task)
   begun_labels = record {
     source = grind (arith, nat_tests);
@@ -37,8 +30,6 @@ module _ {K : Type 0} {m : Kind K} (laws : Laws m) (zero_least : ZeroLeast m) (t
     far_none = λ v far. refl;
     given = λ v ne below. let e = begun_far v ne in let f = laws.far_rank in absurd (omega arith);
     firsts = λ prune v ne below. let e = begun_far v ne in let f = laws.far_rank in absurd (omega arith);
-    near = begun_near;
-    ranked = λ v x w. grind (arith, nat_tests);
     closed = λ l laid rests below. let f = laws.far_rank in let e = begun_far l.from in absurd (grind (arith, nat_tests));
   }
 
@@ -48,8 +39,8 @@ module _ {K : Type 0} {m : Kind K} (laws : Laws m) (zero_least : ZeroLeast m) (t
     labels_reached start = begun_labels
     labels_reached (next {s = s} {t = t} reached lowest) =
         let labels = labels_reached reached in
-        labels_followed m task laws zero_least labels lowest
-        (fair_offers laws zero_least workable labels lowest rows_right strict)
+        labels_followed m task laws zero_least labels
+        (fair_offers laws zero_least workable labels (reached_standing laws zero_least workable reached).1 lowest rows_right strict)
         (follows_all m (offers m task s t) (taking s t))
 
     -- where nobody waits

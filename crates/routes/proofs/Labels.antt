@@ -1,15 +1,16 @@
 -- What holds of the labels as long as a method runs, and what follows for walks that are cheaper than anything that waits.
-use Rattle.std.proofs.Common.{◌≡◌, ℕ, zero, suc, ◌<◌, ◌≤◌, Bool, true, false, ◌⊎◌, ⊎_elim, Option, Some, None, ap, subst, sym, arith, ◌≢◌}
+use Rattle.std.proofs.Common.{◌≡◌, ℕ, zero, suc, ◌<◌, ◌≤◌, true, false, ◌⊎◌, ⊎_elim, Option, Some, None, ap, subst, sym, arith, ◌≢◌}
 use Rattle.std.specs.List.{Contains}
-use Rattle.std.proofs.lemmas.Bool.{cases_eq, cases_Bool}
+use Rattle.std.proofs.lemmas.Bool.{cases_eq, cases_lt, cases_Bool}
 use Rattle.cost.specs.Kind.{Kind, FAR, Same, AtMost, Below}
 use Rattle.cost.specs.Laws.{Laws, ZeroLeast}
 use Rattle.cost.specs.declared.link.Link.{Link}
+use Rattle.queue.specs.Meaning.{Lowest}
 use Rattle.routes.specs.Walk.{Walk, stay, on, Costs, LastBefore}
 use Rattle.routes.specs.Task.{Task, State}
 use Rattle.routes.specs.declared.method.Method.TheVariants.{Prune}
 use Rattle.routes.proofs.Costs.{on_no_less, at_most_far}
-use Rattle.routes.proofs.Follows.{Ranked, waits}
+use Rattle.routes.proofs.Follows.{Ranked, waits, lowest_label}
 
 module _ {K : Type 0} (m : Kind K) (task : Task K) where
   -- some walk from the source to v costs less than c
@@ -46,8 +47,6 @@ module _ {K : Type 0} (m : Kind K) (task : Task K) where
     pub far_none : (v : ℕ) → Same m (s.row.costs v) m.far → s.row.predecessors v ≡ None
     pub given : (v : ℕ) → (v ≢ task.source) → Below m (s.row.costs v) m.far → Preceded (s.row.predecessors v) v (s.row.costs v)
     pub firsts : task.method ≡ Prune → (v : ℕ) → (v ≢ task.source) → Below m (s.row.costs v) m.far → Through (s.firsts v) v (s.row.costs v)
-    pub near : (v : ℕ) → waits s v ≡ true → Below m (s.row.costs v) m.far
-    pub ranked : Ranked m s
     pub closed : (l : Link K) → Contains task.network.links l → waits s l.from ≡ false → Below m (s.row.costs l.from) m.far
         → Settled s l.to (m.joined (s.row.costs l.from) l.cost)
 
@@ -97,3 +96,11 @@ module _ {K : Type 0} (m : Kind K) (task : Task K) where
 
       pub cheaper_walks_known : (v : ℕ) (c : K) → Walk m task.network task.source v c → m.rank c < x → AtMost m (s.row.costs v) c
       cheaper_walks_known v c walk lx = up_to (suc (m.rank c)) v c walk (omega arith) lx
+
+    -- so the label of a waiting station of the lowest rank is final
+    pub final : (t : ℕ) → Ranked m s → Lowest s.queue t → (c : K) → Walk m task.network task.source t c → AtMost m (s.row.costs t) c
+    final t ranked lowest c walk =
+        ⊎_elim
+        (λ (lt : Below m c (s.row.costs t)). cheaper_walks_known (m.rank (s.row.costs t)) (lowest_label m s t ranked lowest) t c walk lt)
+        (λ ge. ge)
+        (cases_lt (m.rank c) (m.rank (s.row.costs t)))

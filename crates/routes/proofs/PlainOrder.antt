@@ -1,14 +1,13 @@
 -- In a run of plain every station's predecessor was taken before it, and its label came over a link from there. No strict law is used.
-use Rattle.std.proofs.Common.{◌≡◌, ℕ, ◌+◌, ◌<◌, ◌≤◌, Bool, true, false, not, cond, ◌⊎◌, inl, inr, ⊎_elim, List, [], ◌∷◌, ◌++◌, length, Option, Some, None, refl, ap, subst, sym, ◌∙◌, arith, ◌≢◌, ◌==◌}
-use Rattle.std.specs.List.{Contains, position_or_len}
-use Rattle.std.proofs.lemmas.Bool.{cases_eq, cases_lt}
+use Rattle.std.proofs.Common.{◌≡◌, ℕ, ◌+◌, ◌<◌, ◌≤◌, true, cond, ⊎_elim, List, [], ◌∷◌, ◌++◌, length, Some, None, ap, subst, sym, ◌∙◌, arith, ◌≢◌, ◌==◌}
+use Rattle.std.specs.List.{position_or_len}
+use Rattle.std.proofs.lemmas.Bool.{cases_lt}
 use Rattle.std.proofs.lemmas.Bool.Decides.{nat_tests}
 use Rattle.std.proofs.lemmas.List.{length_push}
 use Rattle.std.proofs.lemmas.List.Folds.{position_or_len_push}
 use Rattle.std.proofs.lemmas.List.Sums.{sum_by-cons}
-use Rattle.cost.specs.Kind.{Kind, FAR, Same, AtMost, Below}
+use Rattle.cost.specs.Kind.{Kind, Same, Below}
 use Rattle.cost.specs.Laws.{Laws, ZeroLeast}
-use Rattle.cost.specs.declared.link.Link.{Link}
 use Rattle.queue.specs.Drained.{times}
 use Rattle.queue.specs.Meaning.{Lowest}
 use Rattle.routes.specs.Row.{Right}
@@ -18,14 +17,14 @@ use Rattle.routes.specs.Offers.{Offer}
 use Rattle.routes.specs.Methods.{offers, plain, by_method}
 use Rattle.routes.specs.Runs.{taking, followed, Reached, start, next, Run}
 use Rattle.routes.specs.declared.method.Method.{Method}
-use Rattle.routes.specs.declared.method.Method.TheVariants.{Plain, Prune}
+use Rattle.routes.specs.declared.method.Method.TheVariants.{Plain}
 use Rattle.routes.proofs.Follows.{Kept, Moved, follows_all}
 use Rattle.routes.proofs.Takings.{taken_keeps}
 use Rattle.routes.proofs.Costs.{at_most_far}
 use Rattle.routes.proofs.Labels.{Labels}
-use Rattle.routes.proofs.FairOffers.{link_of}
+use Rattle.routes.proofs.MadeOffers.{link_of}
 use Rattle.routes.proofs.Ends.{begun_far, labels_reached, right_at_end}
-use Rattle.routes.proofs.Chains.{Descends, Follows, route, reach}
+use Rattle.routes.proofs.Chains.{Descends, TightLink, route, reach}
 
 -- when v was first taken; the length of xs where it was not
 abbrev pub when : ℕ → List ℕ → ℕ
@@ -48,7 +47,7 @@ module _ {K : Type 0} {m : Kind K} (laws : Laws m) (zero_least : ZeroLeast m) {t
   pub record Earlier (xs : List ℕ) (s : State K) (v : ℕ) : Type 0 where
     pub station : ℕ
     pub is : s.row.predecessors v ≡ Some station
-    pub by : Follows m task.network s.row (λ u. when u xs) station v
+    pub by : TightLink m task.network s.row (λ u. when u xs) station v
 
   module _ {xs : List ℕ} {s : State K} {t : ℕ} (reached : Reached m task xs s) (lowest : Lowest s.queue t) where
     abbrev then : State K
@@ -91,9 +90,9 @@ module _ {K : Type 0} {m : Kind K} (laws : Laws m) (zero_least : ZeroLeast m) {t
         (λ (ge : length (xs ++ t ∷ []) ≤ when v (xs ++ t ∷ [])). omega arith)
         (cases_lt (when v (xs ++ t ∷ [])) (length (xs ++ t ∷ [])))
 
-    earlier_moved : Labels m task s → (v : ℕ) → Moved m (taking s t) (plain m task s t) v then → Earlier (xs ++ t ∷ []) then v
-    earlier_moved labels v d =
-        let l = link_of laws zero_least workable labels lowest (λ u. None) (λ k. true) d.offer d.made in
+    earlier_moved : (v : ℕ) → Moved m (taking s t) (plain m task s t) v then → Earlier (xs ++ t ∷ []) then v
+    earlier_moved v d =
+        let l = link_of m s t task.network (λ u. None) (λ k. true) d.offer d.made in
         let t_before = when_push t t xs in
         let most = when_at_most t xs in
         let longer = length_push xs t in
@@ -122,27 +121,28 @@ module _ {K : Type 0} {m : Kind K} (laws : Laws m) (zero_least : ZeroLeast m) {t
   earlier_reached (next {xs = xs} {s = s} {t = t} reached lowest) v ne below =
       ⊎_elim
       (λ k. earlier_kept reached lowest v k (earlier_reached reached v ne (let e = ap m.rank k.cost in omega arith)))
-      (λ d. earlier_moved reached lowest (labels_of_plain reached) v
+      (λ d. earlier_moved reached lowest v
       (subst (λ (method : Method). Moved m (taking s t) (by_method m task s t method) v (followed m task s t)) is_plain d))
       ((follows_all m (offers m task s t) (taking s t)).fate v)
 
   -- the order of taking is a height in which the row descends
-  follows_given : {xs : List ℕ} {s : State K} → Labels m task s → (v p : ℕ) → s.row.predecessors v ≡ Some p → ((v ≢ task.source) → Below m (s.row.costs v) m.far → Earlier xs s v)
-      → Follows m task.network s.row (λ u. when u xs) p v
-  follows_given {xs} {s} labels v p is earlier =
-      let ne : v ≢ task.source = λ e. absurd (cc (ap s.row.predecessors e, labels.source_none, is)) in
-      let near : Same m (s.row.costs v) m.far → ⊥ = λ far. absurd (cc (labels.far_none v far, is)) in
-      let most = at_most_far laws (s.row.costs v) in
-      let e = earlier ne (omega arith) in
+  tight_link : {xs : List ℕ} {s : State K} {v p : ℕ} → s.row.predecessors v ≡ Some p → Earlier xs s v → TightLink m task.network s.row (λ u. when u xs) p v
+  tight_link {xs} {s} {v} {p} is e =
       let same : e.station ≡ p = cc (e.is, is) in
-      subst (λ (q : ℕ). Follows m task.network s.row (λ u. when u xs) q v) same e.by
+      subst (λ (q : ℕ). TightLink m task.network s.row (λ u. when u xs) q v) same e.by
+
+  tight_given : {xs : List ℕ} {s : State K} → Reached m task xs s → Labels m task s → (v p : ℕ) → s.row.predecessors v ≡ Some p → TightLink m task.network s.row (λ u. when u xs) p v
+  tight_given {xs} {s} reached labels v p is =
+      let most = at_most_far laws (s.row.costs v) in
+      let near : Same m (s.row.costs v) m.far → ⊥ = λ far. absurd (cc (labels.far_none v far, is)) in
+      tight_link is (earlier_reached reached v (λ e. absurd (cc (ap s.row.predecessors e, labels.source_none, is))) (omega arith))
 
   plain_descends : {xs : List ℕ} {s : State K} → Reached m task xs s → Descends m task.network task.source s.row (λ v. when v xs)
   plain_descends {xs} {s} reached =
       let labels = labels_of_plain reached in
       record {
         zero_at_source = ap m.rank labels.source;
-        follows = λ v p there is. follows_given labels v p is (earlier_reached reached v);
+        by_link = λ v p there is. tight_given reached labels v p is;
         some = λ v there ne near. let e = earlier_reached reached v ne near in (e.station, e.is);
       }
 
@@ -156,4 +156,5 @@ module _ {K : Type 0} {m : Kind K} (laws : Laws m) (zero_least : ZeroLeast m) {t
   pub plain_route : {xs : List ℕ} {s : State K} → Run m task xs s → (B : ℕ) (ys : List ℕ) → B < task.network.stations → Chain s.row task.source B ys → LeastRoute m task.network task.source s.row B ys
   plain_route run B ys there chain = route laws workable.source_there (plain_descends run.reached) there chain
 
+-- what the contract wants
 pub ruleset by_plain = (plain_right, plain_reach, plain_route)

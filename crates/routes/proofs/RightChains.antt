@@ -1,8 +1,8 @@
 -- In a right row the costs rise from each predecessor to the station after it.
-use Rattle.std.proofs.Common.{◌≡◌, ℕ, ◌<◌, List, ◌⊎◌, inr, ⊎_elim, Some, arith}
+use Rattle.std.proofs.Common.{◌≡◌, ℕ, ◌<◌, List, inr, ⊎_elim, Some, arith}
 use Rattle.cost.specs.Kind.{Kind, Same, Below}
 use Rattle.cost.specs.Laws.{Laws, Strict}
-use Rattle.routes.proofs.Chains.{Follows, Descends, route, reach}
+use Rattle.routes.proofs.Chains.{TightLink, Descends, route, reach}
 use Rattle.routes.proofs.Checked.{given_or_missing, joins_from_below, tight_last}
 use Rattle.routes.proofs.Costs.{zero_least_from_strict}
 use Rattle.routes.proofs.JoinedWalks.{link_of_last, last_ends}
@@ -13,9 +13,9 @@ use Rattle.routes.specs.Walk.{stay}
 
 module _ {K : Type 0} {m : Kind K} (laws : Laws m) (strict : Strict m) (net : Network K) (A : ℕ) (row : Row K)
     (between : Between net) (none_free : NoneFree m net) (source : A < net.stations) (right : Right m net A row) where
-  -- each station follows its predecessor
-  follows : (v p : ℕ) → v < net.stations → row.predecessors v ≡ Some p → Follows m net row (λ s. m.rank (row.costs s)) p v
-  follows v p within is =
+  -- a tight link leads up to each station from its predecessor
+  by_link : (v p : ℕ) → v < net.stations → row.predecessors v ≡ Some p → TightLink m net row (λ s. m.rank (row.costs s)) p v
+  by_link v p within is =
       let last = right.given v p within is in
       let by = link_of_last last in
       let tight = tight_last laws between right by in
@@ -27,7 +27,7 @@ module _ {K : Type 0} {m : Kind K} (laws : Laws m) (strict : Strict m) (net : Ne
   descends =
       record {
         zero_at_source = omega (arith, (right.least A source).none_less stay, zero_least_from_strict laws strict (row.costs A));
-        follows = follows;
+        by_link = by_link;
         some = λ v within other near. ⊎_elim
             (λ none. absurd (⊎_elim other (λ far. omega arith) ((right.missing v within).0 none)))
             (λ given. given)
@@ -44,3 +44,6 @@ pub right_route : {K : Type 0} {m : Kind K} → Laws m → Strict m → (net : N
     → Right m net A row → B < net.stations → Chain row A B xs → LeastRoute m net A row B xs
 right_route laws strict net A B row xs between none_free source right within chain =
     route laws source (descends laws strict net A row between none_free source right) within chain
+
+-- what the contract wants
+pub ruleset by_right = (right_reach, right_route)

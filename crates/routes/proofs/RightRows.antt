@@ -1,12 +1,12 @@
 -- What is right of a row, link by link.
-use Rattle.std.proofs.Common.{◌≡◌, ℕ, ◌<◌, ◌≤◌, ⊎_elim, arith}
+use Rattle.std.proofs.Common.{ℕ, ◌<◌, ⊎_elim, arith}
 use Rattle.std.specs.List.{Contains}
 use Rattle.std.proofs.lemmas.Bool.{cases_eq}
-use Rattle.cost.specs.Kind.{Kind, FAR, Same, AtMost}
+use Rattle.cost.specs.Kind.{Kind, Same, AtMost}
 use Rattle.cost.specs.Laws.{Laws}
 use Rattle.cost.specs.declared.link.Link.{Link}
 use Rattle.routes.specs.Network.{Network, Between}
-use Rattle.routes.specs.Walk.{Walk, stay, on, Costs}
+use Rattle.routes.specs.Walk.{stay, on}
 use Rattle.routes.specs.Row.{Row, Right}
 use Rattle.routes.proofs.Costs.{same_left, at_most_far, far_before}
 

@@ -1,5 +1,5 @@
 -- How stations stand while a method runs: which were taken, and which wait.
-use Rattle.std.proofs.Common.{◌≡◌, ℕ, ◌+◌, ◌<◌, ◌≤◌, Bool, true, false, ◌⊎◌, ⊎_elim, List, [], ◌∷◌, ◌++◌, Option, Some, None, is_some, cond, refl, sym, ap, ◌∙◌, ◌≢◌, ◌==◌, arith}
+use Rattle.std.proofs.Common.{◌≡◌, ℕ, ◌+◌, ◌<◌, ◌≤◌, true, false, ⊎_elim, List, [], ◌∷◌, ◌++◌, is_some, cond, sym, ap, ◌∙◌, ◌==◌, arith}
 use Rattle.std.specs.List.{Contains}
 use Rattle.std.proofs.lemmas.Bool.{cases_eq, true≢false}
 use Rattle.std.proofs.lemmas.Bool.Decides.{nat_tests}
@@ -34,7 +34,7 @@ module _ {K : Type 0} {m : Kind K} {n : ℕ} {P : Type 0} {xs : List ℕ} {s : S
       let here = standing.waiting t (ap is_some low.waits) in
       let t_waits : waits s t ≡ true = ap is_some low.waits in
       record {
-        none_twice = λ v. let more = times_push v xs t in let once = standing.none_twice v in let old = standing.taken v in grind (arith, nat_tests, cases_eq t v);
+        none_twice = record { at_most_once = λ v. let more = times_push v xs t in let once = standing.none_twice.at_most_once v in let old = standing.taken v in grind (arith, nat_tests, cases_eq t v) };
         taken = λ v in_xs. let more = times_push v xs t in let old = standing.taken v in let w = waits_taking s t v in
             (grind (arith, nat_tests, cases_eq t v), grind (arith, nat_tests, cases_eq t v), grind (arith, nat_tests, cases_eq t v), grind (arith, nat_tests, cases_eq t v));
         waiting = λ v yes. let old = standing.waiting v in let w = waits_taking s t v in let le = lowest_label m s t standing.ranked low v in

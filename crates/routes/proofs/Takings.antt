@@ -1,13 +1,12 @@
 -- No station is taken twice, so every run ends; and how many are taken.
-use Rattle.std.proofs.Common.{◌≡◌, ◌≢◌, ℕ, zero, suc, ◌+◌, ◌<◌, ◌≤◌, ◌⊎◌, List, [], ◌∷◌, ◌++◌, cond, length, min, nat_lt, arith, ◌==◌, None, ⊎_elim, refl, ap, ◌∙◌, is_some, subst, append_assoc}
+use Rattle.std.proofs.Common.{◌≡◌, ◌≢◌, ℕ, zero, suc, ◌+◌, ◌<◌, ◌≤◌, ◌⊎◌, List, [], ◌∷◌, ◌++◌, length, min, nat_lt, arith, ⊎_elim, refl, ap, ◌∙◌, is_some, subst, append_assoc}
 use Rattle.std.proofs.lemmas.Bool.{cases_eq}
 use Rattle.std.proofs.lemmas.Bool.Decides.{nat_tests}
 use Rattle.std.proofs.lemmas.List.{length_push, append-nil}
-use Rattle.std.proofs.lemmas.List.Sums.{sum_by_push}
 use Rattle.cost.specs.Kind.{Kind, FAR}
 use Rattle.cost.specs.Laws.{Laws, ZeroLeast}
 use Rattle.queue.specs.Drained.{times}
-use Rattle.queue.specs.Meaning.{Waits, Nobody, Lowest, most_taken}
+use Rattle.queue.specs.Meaning.{Nobody, Lowest, most_taken}
 use Rattle.routes.specs.Chain.{NoneTwice}
 use Rattle.routes.specs.Offers.{Offer, offered, offered_all}
 use Rattle.routes.specs.Methods.{offers}
@@ -29,7 +28,7 @@ module _ {K : Type 0} {m : Kind K} {task : Task K} (laws : Laws m) (zero_least :
       let not_far = laws.zero_is_not_far in
       let there = workable.source_there in
       record {
-        none_twice = λ v. omega arith;
+        none_twice = record { at_most_once = λ v. omega arith };
         taken = λ v in_xs. absurd (omega arith);
         waiting = λ v yes. (grind (arith, nat_tests, cases_eq v task.source), grind (arith, nat_tests, cases_eq v task.source), omega arith);
         ranked = λ v y w. grind (arith, nat_tests);
@@ -58,7 +57,7 @@ module _ {K : Type 0} {m : Kind K} {task : Task K} (laws : Laws m) (zero_least :
   at_most_below_far {xs} {s} reached =
       let standing = (reached_standing reached).1 in
       at_most_counted (λ v. nat_lt (m.rank (s.row.costs v)) FAR) xs task.network.stations
-      (λ v. let once = standing.none_twice v in let taken = standing.taken v in grind (arith, nat_tests))
+      (λ v. let once = standing.none_twice.at_most_once v in let taken = standing.taken v in grind (arith, nat_tests))
       (λ v late. let taken = standing.taken v in grind arith)
 
   pub at_most_stations : {xs : List ℕ} {s : State K} → Reached m task xs s → length xs ≤ task.network.stations
@@ -110,6 +109,6 @@ module _ {K : Type 0} {m : Kind K} {task : Task K} (laws : Laws m) (zero_least :
   run_takes run = omega (arith, all_taken run.reached, some_taken run.reached run.over)
 
 -- what the contracts want
-pub ruleset ends = (ends_once, at_most_stations)
+pub ruleset ends = (none_twice, at_most_stations, ends_once)
 
 pub ruleset counts = (all_taken, run_takes, at_most_below_far, all_below_far)

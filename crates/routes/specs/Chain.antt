@@ -15,8 +15,8 @@ pub data Chain {K : Type 0} (row : Row K) (A : ℕ) : ℕ → List ℕ → Type 
   source : Chain row A A (A ∷ [])
   after : {p B : ℕ} {xs : List ℕ} → Chain row A p xs → row.predecessors B ≡ Some p → Chain row A B (xs ++ B ∷ [])
 
-abbrev pub NoneTwice : List ℕ → Type 0
-NoneTwice xs = (s : ℕ) → times s xs ≤ 1
+pub record NoneTwice (xs : List ℕ) : Type 0 where
+  pub at_most_once : (s : ℕ) → times s xs ≤ 1
 
 pub record LeastRoute {K : Type 0} (m : Kind K) (net : Network K) (A : ℕ) (row : Row K) (B : ℕ) (xs : List ℕ) : Type 0 where
   pub cost : K

@@ -7,7 +7,7 @@
 --   undercut            5  a link leads to B from a station whose cost joined with it is below B's cost
 --   fails B cause       whether B fails by the cause of that number
 --   NoneFails           no station fails
-use Rattle.std.specs.Prelude.{◌≡◌, ℕ, ◌<◌, Bool, true, false, not, ◌&&◌, ◌||◌, ◌==◌, nat_lt, Some, None, Option, is_some, is_none, cond}
+use Rattle.std.specs.Prelude.{◌≡◌, ℕ, ◌<◌, Bool, false, not, ◌&&◌, ◌||◌, ◌==◌, nat_lt, Some, None, Option, is_some, is_none, cond}
 use Rattle.std.specs.List.{list_any}
 use Rattle.cost.specs.Kind.{Kind, FAR}
 use Rattle.cost.specs.declared.link.Link.{Link}
@@ -50,5 +50,5 @@ module _ {K : Type 0} (m : Kind K) (net : Network K) (A : ℕ) (row : Row K) whe
       || (cause == 4 && loose B (row.predecessors B))
       || (cause == 5 && undercut B)
 
-  abbrev pub NoneFails : Type 0
-  NoneFails = (B cause : ℕ) → B < net.stations → fails B cause ≡ false
+  pub record NoneFails : Type 0 where
+    pub passes : (B cause : ℕ) → B < net.stations → fails B cause ≡ false

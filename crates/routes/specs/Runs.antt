@@ -5,7 +5,7 @@
 --   Reached m task xs s      the stations xs may be taken one after the other, and s is the state then
 --   Run m task xs s          a whole run: nobody waits any more
 --   below_far m n row        how many stations of n have a cost below FAR
-use Rattle.std.specs.Prelude.{◌≡◌, ℕ, List, [], ◌∷◌, ◌++◌, nat_lt, count_by}
+use Rattle.std.specs.Prelude.{ℕ, List, [], ◌∷◌, ◌++◌, nat_lt, count_by}
 use Rattle.std.specs.List.{range_with_len}
 use Rattle.cost.specs.Kind.{Kind, FAR}
 use Rattle.queue.specs.Calls.{after_take}

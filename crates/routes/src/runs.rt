@@ -16,8 +16,7 @@ pub fn runs_end<K>()
     ensures none_twice { (m : Kind K) (task : Task K) (xs : List ℕ) (s : State K) → Laws m → ZeroLeast m → Workable task → Reached m task xs s → NoneTwice xs }
     ensures at_most { (m : Kind K) (task : Task K) (xs : List ℕ) (s : State K) → Laws m → ZeroLeast m → Workable task → Reached m task xs s → length xs ≤ task.network.stations }
     ensures ends { (m : Kind K) (task : Task K) (xs : List ℕ) (s : State K) → Laws m → ZeroLeast m → Workable task → Reached m task xs s → (ys : List ℕ) × (e : State K) × Run m task (xs ++ ys) e }
-{
-}
+{}
 
 // How many stations are taken.
 #[tactic(auto, using(crate::proofs::Takings::counts))]
@@ -26,15 +25,13 @@ pub fn runs_count<K>()
     ensures some { (m : Kind K) (task : Task K) (xs : List ℕ) (s : State K) → Laws m → ZeroLeast m → Workable task → Run m task xs s → 1 ≤ s.queue.taken }
     ensures at_most { (m : Kind K) (task : Task K) (xs : List ℕ) (s : State K) → Laws m → ZeroLeast m → Workable task → Run m task xs s → s.queue.taken ≤ below_far m task.network.stations s.row }
     ensures all { (m : Kind K) (task : Task K) (xs : List ℕ) (s : State K) → Laws m → ZeroLeast m → Workable task → (task.method ≢ Reuse) → Run m task xs s → s.queue.taken ≡ below_far m task.network.stations s.row }
-{
-}
+{}
 
 // Every run of every method ends in a right row, if the rows that it reads are right.
 #[tactic(auto, using(crate::proofs::Ends::runs_right))]
 pub fn runs_end_right<K: Cost>()
     ensures right { (task : Task K) (xs : List ℕ) (s : State K) → Workable task → RowsRight K.kind task → Run K.kind task xs s → Right K.kind task.network task.source s.row }
-{
-}
+{}
 
 // Runs of plain end in a right row, along whose predecessors there are walks of just its costs past no station twice, for every kind that
 // shows the laws and has no cost below zero. No strict law is used.
@@ -43,5 +40,4 @@ pub fn plain_needs_no_strict_law<K>()
     ensures right { (m : Kind K) (task : Task K) (xs : List ℕ) (s : State K) → Laws m → ZeroLeast m → Workable task → task.method ≡ Plain → Run m task xs s → Right m task.network task.source s.row }
     ensures reach { (m : Kind K) (task : Task K) (xs : List ℕ) (s : State K) → Laws m → ZeroLeast m → Workable task → task.method ≡ Plain → Run m task xs s → (B : ℕ) → B < task.network.stations → Below m (s.row.costs B) m.far → (ys : List ℕ) × Chain s.row task.source B ys }
     ensures cost { (m : Kind K) (task : Task K) (xs : List ℕ) (s : State K) → Laws m → ZeroLeast m → Workable task → task.method ≡ Plain → Run m task xs s → (B : ℕ) (ys : List ℕ) → B < task.network.stations → Chain s.row task.source B ys → LeastRoute m task.network task.source s.row B ys }
-{
-}
+{}

@@ -11,5 +11,4 @@ use cost::Cost;
 pub fn least_costs_are_one<K: Cost>()
     ensures of_pair { (net : Network K) (A B : ℕ) (a b : K) → Least K.kind net A B a → Least K.kind net A B b → Same K.kind a b }
     ensures of_rows { (net : Network K) (A B : ℕ) (row other : Row K) → Right K.kind net A row → Right K.kind net A other → B < net.stations → Same K.kind (row.costs B) (other.costs B) }
-{
-}
+{}
