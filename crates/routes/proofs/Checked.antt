@@ -6,7 +6,7 @@ use Rattle.cost.specs.Kind.{Kind, Same, AtMost, Below}
 use Rattle.cost.specs.Laws.{Laws, Strict, ZeroLeast}
 use Rattle.cost.specs.declared.link.Link.{Link}
 use Rattle.routes.proofs.Chains.{TightLink, Descends, route, reach}
-use Rattle.routes.proofs.Costs.{far_before, at_most_far, zero_least_from_strict}
+use Rattle.routes.proofs.Costs.{far_before, at_most_far}
 use Rattle.routes.proofs.JoinedWalks.{LastLink, link_of_last, last_ends, last_same, goes_on_to}
 use Rattle.routes.proofs.RightRows.{no_better}
 use Rattle.routes.proofs.Tested.{Holds, passes_from_holds, holds_from_passes}
@@ -122,14 +122,14 @@ module _ {K : Type 0} {m : Kind K} (laws : Laws m) {net : Network K} {A : ℕ} {
           }
 
 -- the two theorems
-pub right_passes : {K : Type 0} {m : Kind K} → Laws m → Strict m → (net : Network K) (A : ℕ) (row : Row K) → Between net → OnePerPair net
-    → A < net.stations → Right m net A row → NoneFails m net A row
-right_passes {K} {m} laws strict net A row between one source right =
-    record { passes = λ B cause within. passes_from_holds m net A row B (right_holds laws between right (zero_least_from_strict laws strict) one source B within) cause }
+pub right_passes : {K : Type 0} {m : Kind K} {net : Network K} {A : ℕ} {row : Row K} → Laws m → ZeroLeast m → Between net → OnePerPair net → A < net.stations → Right m net A row
+    → NoneFails m net A row
+right_passes {m = m} {net = net} {A = A} {row = row} laws zero_least between one source right =
+    record { passes = λ B cause within. passes_from_holds m net A row B (right_holds laws between right zero_least one source B within) cause }
 
-pub passes_right : {K : Type 0} {m : Kind K} → Laws m → Strict m → (net : Network K) (A : ℕ) (row : Row K) → Between net → NoneFree m net
-    → A < net.stations → NoneFails m net A row → Right m net A row
-passes_right {K} {m} laws strict net A row between none_free source none =
+pub passes_right : {K : Type 0} {m : Kind K} {net : Network K} {A : ℕ} {row : Row K} → Laws m → Strict m → Between net → NoneFree m net → A < net.stations → NoneFails m net A row
+    → Right m net A row
+passes_right {m = m} {net = net} {A = A} {row = row} laws strict between none_free source none =
     holds_right laws between source (λ B within. holds_from_passes m net A row B (λ cause. none.passes B cause within)) strict none_free
 
 -- what the contract wants

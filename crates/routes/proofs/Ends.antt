@@ -11,7 +11,7 @@ use Rattle.routes.specs.Task.{Task, Workable, RowsRight, State, begun}
 use Rattle.routes.specs.Methods.{offers}
 use Rattle.routes.specs.Runs.{taking, Reached, start, next, Run}
 use Rattle.routes.specs.declared.method.Method.TheVariants.{Plain, Prune}
-use Rattle.routes.proofs.Costs.{at_most_far, zero_least_from_strict}
+use Rattle.routes.proofs.Costs.{at_most_far}
 use Rattle.routes.proofs.Follows.{follows_all}
 use Rattle.routes.proofs.Takings.{reached_standing}
 use Rattle.routes.proofs.Labels.{Labels, walked, cheaper_walks_known}
@@ -84,8 +84,5 @@ module _ {K : Type 0} {m : Kind K} (laws : Laws m) (zero_least : ZeroLeast m) (t
           given = λ v p there. given_last labels run.over v p;
         }
 
--- for a kind with the strict laws
-pub runs_right : {K : Type 0} {m : Kind K} {task : Task K} {xs : List ℕ} {s : State K} → Laws m → Strict m → Workable task → RowsRight m task → Run m task xs s
-    → Right m task.network task.source s.row
-runs_right {task = task} laws strict workable rows_right run =
-    right_at_end laws (zero_least_from_strict laws strict) task workable (λ other. rows_right) (λ pruned. strict) run
+  pub right_from_rows : Workable task → RowsRight m task → (task.method ≡ Prune → Strict m) → {xs : List ℕ} {s : State K} → Run m task xs s → Right m task.network task.source s.row
+  right_from_rows workable rows_right strict run = right_at_end workable (λ other. rows_right) strict run

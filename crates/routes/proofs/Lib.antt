@@ -1,6 +1,7 @@
 pub mod Costs
 pub mod Members
 pub mod JoinedWalks
+pub mod OneLeast
 pub mod RightRows
 pub mod Chains
 pub mod Tested

@@ -11,7 +11,7 @@ use Rattle.routes.specs.Network.{Network, Between, NoneFree}
 use Rattle.routes.specs.Row.{Row, Right}
 use Rattle.routes.specs.Walk.{stay}
 
-module _ {K : Type 0} {m : Kind K} (laws : Laws m) (strict : Strict m) (net : Network K) (A : ℕ) (row : Row K)
+module _ {K : Type 0} {m : Kind K} (laws : Laws m) (strict : Strict m) {net : Network K} {A : ℕ} {row : Row K}
     (between : Between net) (none_free : NoneFree m net) (source : A < net.stations) (right : Right m net A row) where
   -- a tight link leads up to each station from its predecessor
   by_link : (v p : ℕ) → v < net.stations → row.predecessors v ≡ Some p → TightLink m net row (λ s. m.rank (row.costs s)) p v
@@ -34,16 +34,12 @@ module _ {K : Type 0} {m : Kind K} (laws : Laws m) (strict : Strict m) (net : Ne
             (given_or_missing (row.predecessors v));
       }
 
--- so its predecessors lead to each station below FAR, and only on least routes
-pub right_reach : {K : Type 0} {m : Kind K} → Laws m → Strict m → (net : Network K) (A B : ℕ) (row : Row K) → Between net → NoneFree m net → A < net.stations
-    → Right m net A row → B < net.stations → Below m (row.costs B) m.far → (xs : List ℕ) × Chain row A B xs
-right_reach laws strict net A B row between none_free source right within =
-    reach laws source (descends laws strict net A row between none_free source right) B within
+  -- so its predecessors lead to each station below FAR, and only on least routes
+  pub right_reach : {B : ℕ} → B < net.stations → Below m (row.costs B) m.far → (xs : List ℕ) × Chain row A B xs
+  right_reach {B} within near = reach laws source descends B within near
 
-pub right_route : {K : Type 0} {m : Kind K} → Laws m → Strict m → (net : Network K) (A B : ℕ) (row : Row K) (xs : List ℕ) → Between net → NoneFree m net → A < net.stations
-    → Right m net A row → B < net.stations → Chain row A B xs → LeastRoute m net A row B xs
-right_route laws strict net A B row xs between none_free source right within chain =
-    route laws source (descends laws strict net A row between none_free source right) within chain
+  pub right_route : {B : ℕ} {xs : List ℕ} → B < net.stations → Chain row A B xs → LeastRoute m net A row B xs
+  right_route within chain = route laws source descends within chain
 
 -- what the contract wants
 pub ruleset by_right = (right_reach, right_route)

@@ -1,43 +1,41 @@
 // Theorems about runs of the methods.
 ghost use Rattle.std.specs.Prelude.{◌≡◌, ℕ, ◌<◌, ◌≤◌, List, ◌++◌, length, ◌≢◌};
 ghost use Rattle.cost.specs.Kind.{Kind, Below};
-ghost use Rattle.cost.specs.Laws.{Laws, ZeroLeast};
+ghost use Rattle.cost.specs.Laws.{Laws, Strict, ZeroLeast};
 ghost use Rattle.routes.specs.Row.{Right};
 ghost use Rattle.routes.specs.Chain.{Chain, NoneTwice, LeastRoute};
 ghost use Rattle.routes.specs.Task.{Task, Workable, RowsRight, State};
 ghost use Rattle.routes.specs.Runs.{Reached, Run, below_far};
-ghost use Rattle.routes.specs.declared.method.Method.TheVariants.{Plain, Reuse};
-
-use cost::Cost;
+ghost use Rattle.routes.specs.declared.method.Method.TheVariants.{Plain, Reuse, Prune};
 
 // Every run ends, whatever the rows that it reads: no station is taken twice, and what was begun can be brought to its end.
 #[tactic(auto, using(crate::proofs::Takings::ends))]
 pub fn runs_end<K>()
-    ensures none_twice { (m : Kind K) (task : Task K) (xs : List ℕ) (s : State K) → Laws m → ZeroLeast m → Workable task → Reached m task xs s → NoneTwice xs }
-    ensures at_most { (m : Kind K) (task : Task K) (xs : List ℕ) (s : State K) → Laws m → ZeroLeast m → Workable task → Reached m task xs s → length xs ≤ task.network.stations }
-    ensures ends { (m : Kind K) (task : Task K) (xs : List ℕ) (s : State K) → Laws m → ZeroLeast m → Workable task → Reached m task xs s → (ys : List ℕ) × (e : State K) × Run m task (xs ++ ys) e }
+    ensures none_twice { (m : Kind K) → Laws m → ZeroLeast m → (task : Task K) (xs : List ℕ) (s : State K) → Workable task → Reached m task xs s → NoneTwice xs }
+    ensures at_most { (m : Kind K) → Laws m → ZeroLeast m → (task : Task K) (xs : List ℕ) (s : State K) → Workable task → Reached m task xs s → length xs ≤ task.network.stations }
+    ensures ends { (m : Kind K) → Laws m → ZeroLeast m → (task : Task K) (xs : List ℕ) (s : State K) → Workable task → Reached m task xs s → (ys : List ℕ) × (e : State K) × Run m task (xs ++ ys) e }
 {}
 
 // How many stations are taken.
 #[tactic(auto, using(crate::proofs::Takings::counts))]
 pub fn runs_count<K>()
-    ensures taken { (m : Kind K) (task : Task K) (xs : List ℕ) (s : State K) → Laws m → ZeroLeast m → Workable task → Reached m task xs s → s.queue.taken ≡ length xs }
-    ensures some { (m : Kind K) (task : Task K) (xs : List ℕ) (s : State K) → Laws m → ZeroLeast m → Workable task → Run m task xs s → 1 ≤ s.queue.taken }
-    ensures at_most { (m : Kind K) (task : Task K) (xs : List ℕ) (s : State K) → Laws m → ZeroLeast m → Workable task → Run m task xs s → s.queue.taken ≤ below_far m task.network.stations s.row }
-    ensures all { (m : Kind K) (task : Task K) (xs : List ℕ) (s : State K) → Laws m → ZeroLeast m → Workable task → (task.method ≢ Reuse) → Run m task xs s → s.queue.taken ≡ below_far m task.network.stations s.row }
+    ensures taken { (m : Kind K) → Laws m → ZeroLeast m → (task : Task K) (xs : List ℕ) (s : State K) → Workable task → Reached m task xs s → s.queue.taken ≡ length xs }
+    ensures some { (m : Kind K) → Laws m → ZeroLeast m → (task : Task K) (xs : List ℕ) (s : State K) → Workable task → Run m task xs s → 1 ≤ s.queue.taken }
+    ensures at_most { (m : Kind K) → Laws m → ZeroLeast m → (task : Task K) (xs : List ℕ) (s : State K) → Workable task → Run m task xs s → s.queue.taken ≤ below_far m task.network.stations s.row }
+    ensures all { (m : Kind K) → Laws m → ZeroLeast m → (task : Task K) (xs : List ℕ) (s : State K) → Workable task → (task.method ≢ Reuse) → Run m task xs s → s.queue.taken ≡ below_far m task.network.stations s.row }
 {}
 
-// Every run of every method ends in a right row, if the rows that it reads are right.
-#[tactic(auto, using(crate::proofs::Ends::runs_right))]
-pub fn runs_end_right<K: Cost>()
-    ensures right { (task : Task K) (xs : List ℕ) (s : State K) → Workable task → RowsRight K.kind task → Run K.kind task xs s → Right K.kind task.network task.source s.row }
+// Every run of every method ends in a right row, if the worked rows that it reads are right. Only prune needs the strict laws.
+#[tactic(auto, using(crate::proofs::Ends::right_from_rows))]
+pub fn runs_end_right<K>()
+    ensures right { (m : Kind K) → Laws m → ZeroLeast m → (task : Task K) (xs : List ℕ) (s : State K) → Workable task → RowsRight m task → (task.method ≡ Prune → Strict m) → Run m task xs s → Right m task.network task.source s.row }
 {}
 
-// Runs of plain end in a right row, along whose predecessors there are walks of just its costs past no station twice, for every kind that
-// shows the laws and has no cost below zero. No strict law is used.
+// Plain needs neither worked rows nor the strict laws: it ends in a right row, in which the predecessors lead from the source to each station
+// below FAR, on a walk of just its cost, past no station twice.
 #[tactic(auto, using(crate::proofs::PlainOrder::by_plain))]
 pub fn plain_needs_no_strict_law<K>()
-    ensures right { (m : Kind K) (task : Task K) (xs : List ℕ) (s : State K) → Laws m → ZeroLeast m → Workable task → task.method ≡ Plain → Run m task xs s → Right m task.network task.source s.row }
-    ensures reach { (m : Kind K) (task : Task K) (xs : List ℕ) (s : State K) → Laws m → ZeroLeast m → Workable task → task.method ≡ Plain → Run m task xs s → (B : ℕ) → B < task.network.stations → Below m (s.row.costs B) m.far → (ys : List ℕ) × Chain s.row task.source B ys }
-    ensures cost { (m : Kind K) (task : Task K) (xs : List ℕ) (s : State K) → Laws m → ZeroLeast m → Workable task → task.method ≡ Plain → Run m task xs s → (B : ℕ) (ys : List ℕ) → B < task.network.stations → Chain s.row task.source B ys → LeastRoute m task.network task.source s.row B ys }
+    ensures right { (m : Kind K) → Laws m → ZeroLeast m → (task : Task K) (xs : List ℕ) (s : State K) → Workable task → task.method ≡ Plain → Run m task xs s → Right m task.network task.source s.row }
+    ensures reach { (m : Kind K) → Laws m → ZeroLeast m → (task : Task K) (xs : List ℕ) (s : State K) → Workable task → task.method ≡ Plain → Run m task xs s → (B : ℕ) → B < task.network.stations → Below m (s.row.costs B) m.far → (ys : List ℕ) × Chain s.row task.source B ys }
+    ensures route { (m : Kind K) → Laws m → ZeroLeast m → (task : Task K) (xs : List ℕ) (s : State K) → Workable task → task.method ≡ Plain → Run m task xs s → (B : ℕ) (ys : List ℕ) → B < task.network.stations → Chain s.row task.source B ys → LeastRoute m task.network task.source s.row B ys }
 {}
