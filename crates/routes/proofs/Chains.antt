@@ -1,7 +1,8 @@
--- Where some height rises from each predecessor to the station after it, the predecessors lead from the source on walks of just the row's costs.
-use Rattle.std.proofs.Common.{◌≡◌, ℕ, zero, suc, ◌+◌, ◌<◌, ◌≤◌, List, [], ◌∷◌, ◌++◌, ◌==◌, ⊎_elim, Some, cond, length, nat_lt, refl, subst, sym, ap, ◌∙◌, arith}
+-- Predecessors from which tight links lead are the stations of least routes.
+use Rattle.std.proofs.Common.{◌≡◌, ℕ, zero, suc, ◌+◌, ◌<◌, ◌≤◌, List, [], ◌∷◌, ◌++◌, ◌==◌, ⊎_elim, None, Some, cond, length, nat_lt, refl, subst, sym, ap, ◌∙◌, arith}
 use Rattle.std.proofs.lemmas.Bool.{cases_eq, cases_lt}
 use Rattle.std.proofs.lemmas.Bool.Decides.{nat_tests}
+use Rattle.std.proofs.lemmas.List.{length_push}
 use Rattle.std.proofs.lemmas.List.Sums.{sum_by-cons, sum_by_push}
 use Rattle.std.specs.List.{Contains}
 use Rattle.cost.specs.Kind.{Kind, Same, Below}
@@ -15,20 +16,21 @@ use Rattle.routes.specs.Network.{Network}
 use Rattle.routes.specs.Row.{Row}
 use Rattle.routes.specs.Walk.{Walk, stay, on, stations}
 
--- a link leads from station p to v, up in height, on which p's cost becomes v's
-pub record TightLink {K : Type 0} (m : Kind K) (net : Network K) (row : Row K) (height : ℕ → ℕ) (p v : ℕ) : Type 0 where
+-- a link leads from station p to v, on which p's cost becomes v's
+pub record TightLink {K : Type 0} (m : Kind K) (net : Network K) (row : Row K) (p v : ℕ) : Type 0 where
   pub station : p < net.stations
-  pub rises : height p < height v
   pub link : Link K
   pub laid : Contains net.links link
   pub starts : link.from ≡ p
   pub ends : link.to ≡ v
   pub tight : Same m (m.joined (row.costs p) link.cost) (row.costs v)
 
--- the source costs zero, a tight link leads up to each station from the predecessor that it has, and each below FAR but the source has one
-pub record Descends {K : Type 0} (m : Kind K) (net : Network K) (A : ℕ) (row : Row K) (height : ℕ → ℕ) : Type 0 where
+-- the source costs zero and has no predecessor, a tight link leads to each station from the predecessor that it has, and each below FAR but
+-- the source has one
+pub record Linked {K : Type 0} (m : Kind K) (net : Network K) (A : ℕ) (row : Row K) : Type 0 where
   pub zero_at_source : Same m (row.costs A) m.zero
-  pub by_link : (v p : ℕ) → v < net.stations → row.predecessors v ≡ Some p → TightLink m net row height p v
+  pub none_at_source : row.predecessors A ≡ None
+  pub by_link : (v p : ℕ) → v < net.stations → row.predecessors v ≡ Some p → TightLink m net row p v
   pub some : (v : ℕ) → v < net.stations → (v ≡ A → ⊥) → Below m (row.costs v) m.far → (p : ℕ) × (row.predecessors v ≡ Some p)
 
 -- numbers that stand in a list at most once, all below n, are at most n
@@ -48,7 +50,42 @@ record Walked {K : Type 0} (m : Kind K) (net : Network K) (A : ℕ) (row : Row K
   costs_that : Same m cost (row.costs B)
   passes : stations walk ≡ xs
 
-module _ {K : Type 0} {m : Kind K} (laws : Laws m) {net : Network K} {A : ℕ} {row : Row K} {height : ℕ → ℕ} (source : A < net.stations) (descends : Descends m net A row height) where
+module _ {K : Type 0} {row : Row K} {A : ℕ} where
+  -- a station on a chain has a chain of its own, no longer
+  part : {B : ℕ} {xs : List ℕ} → Chain row A B xs → (s : ℕ) → 1 ≤ times s xs → (zs : List ℕ) × Chain row A s zs × (length zs ≤ length xs)
+  part begin s on_it = let same : A ≡ s = grind (arith, nat_tests) in (A ∷ [], subst (λ (z : ℕ). Chain row A z (A ∷ [])) same begin, omega arith)
+  part (after {B = B} {xs = xs} chain is) s on_it =
+      ⊎_elim
+      (λ (e : B ≡ s). (xs ++ B ∷ [], subst (λ (z : ℕ). Chain row A z (xs ++ B ∷ [])) e (after chain is), omega arith))
+      (λ (ne : B ≡ s → ⊥).
+      let one_more = sum_by_push (λ x. cond (x == s) 1 0) xs B in
+      let rest = part chain s (grind (arith, nat_tests)) in
+      (rest.0, rest.1, omega (arith, rest.2, length_push xs B)))
+      (cases_eq B s)
+
+  -- where the source has no predecessor, all chains of a station are equally long
+  module _ (none : row.predecessors A ≡ None) where
+    same_length : {B C : ℕ} {xs ys : List ℕ} → B ≡ C → Chain row A B xs → Chain row A C ys → length xs ≡ length ys
+    same_length e begin begin = refl
+    same_length e begin (after chain is) = absurd (cc (none, ap row.predecessors e, is))
+    same_length e (after chain is) begin = absurd (cc (none, ap row.predecessors e, is))
+    same_length e (after {p = p} {B = B} {xs = xs} chain is) (after {p = q} {B = C} {xs = ys} other is_other) =
+        let same : p ≡ q = cc (is, is_other, ap row.predecessors e) in
+        omega (arith, same_length same chain other, length_push xs B, length_push ys C)
+
+    -- so none stands on a chain twice
+    once : {B : ℕ} {xs : List ℕ} → Chain row A B xs → (s : ℕ) → times s xs ≤ 1
+    once begin s = grind (arith, nat_tests)
+    once (after {p = p} {B = B} {xs = xs} chain is) s =
+        let one_more = sum_by_push (λ x. cond (x == s) 1 0) xs B in
+        let so_far = once chain s in
+        let none_before : B ≡ s → 1 ≤ times s xs → ⊥ =
+        λ same on_it.
+        let by = part chain s on_it in
+        omega (arith, by.2, length_push xs B, same_length same (after chain is) by.1) in
+        grind (arith, nat_tests, cases_eq B s)
+
+module _ {K : Type 0} {m : Kind K} (laws : Laws m) {net : Network K} {A : ℕ} {row : Row K} (source : A < net.stations) (linked : Linked m net A row) where
   -- a chain is a walk
   walked_on : {xs : List ℕ} (l : Link K) → Walked m net A row l.from xs → Contains net.links l → Same m (m.joined (row.costs l.from) l.cost) (row.costs l.to)
       → Walked m net A row l.to (xs ++ l.to ∷ [])
@@ -61,56 +98,53 @@ module _ {K : Type 0} {m : Kind K} (laws : Laws m) {net : Network K} {A : ℕ} {
       }
 
   walked : {B : ℕ} {xs : List ℕ} → B < net.stations → Chain row A B xs → Walked m net A row B xs
-  walked within begin = record { cost = m.zero; walk = stay; costs_that = sym descends.zero_at_source; passes = refl }
+  walked within begin = record { cost = m.zero; walk = stay; costs_that = sym linked.zero_at_source; passes = refl }
   walked {B} within (after {p = p} {xs = xs} chain is) =
-      let f = descends.by_link B p within is in
+      let f = linked.by_link B p within is in
       let before = subst (λ (z : ℕ). Walked m net A row z xs) (sym f.starts) (walked f.station chain) in
       let tight_from = subst (λ (z : ℕ). Same m (m.joined (row.costs z) f.link.cost) (row.costs B)) (sym f.starts) f.tight in
       let tight = subst (λ (z : ℕ). Same m (m.joined (row.costs f.link.from) f.link.cost) (row.costs z)) (sym f.ends) tight_from in
       subst (λ (z : ℕ). Walked m net A row z (xs ++ z ∷ [])) f.ends (walked_on f.link before f.laid tight)
 
-  -- on it stand stations alone, and but for its last none as high as that
-  counted : {B : ℕ} {xs : List ℕ} → B < net.stations → Chain row A B xs → (s : ℕ)
-      → (times s xs ≤ cond (nat_lt s net.stations) 1 0) × ((s ≡ B → ⊥) → height B ≤ height s → times s xs ≡ 0)
-  counted within begin s = (grind (arith, nat_tests), λ other high. grind (arith, nat_tests))
-  counted {B} within (after {p = p} {xs = xs} chain is) s =
-      let f = descends.by_link B p within is in
-      let rest = counted f.station chain s in
+  -- on it stand stations alone
+  there : {B : ℕ} {xs : List ℕ} → B < net.stations → Chain row A B xs → (s : ℕ) → 1 ≤ times s xs → s < net.stations
+  there within begin s on_it = grind (arith, nat_tests)
+  there {B} within (after {p = p} {xs = xs} chain is) s on_it =
+      let before = there (linked.by_link B p within is).station chain s in
       let one_more = sum_by_push (λ x. cond (x == s) 1 0) xs B in
-      let none : height B ≤ height s → times s xs ≡ 0 = λ high. rest.1 (λ same. let e = ap height same in omega (arith, f.rises)) (omega (arith, f.rises)) in
-      let none_here : s ≡ B → times s xs ≡ 0 = λ same. let e = ap height same in none (omega arith) in
-      let at_most = rest.0 in
-      (grind (arith, nat_tests), λ other high. let n = none high in grind (arith, nat_tests))
+      grind (arith, nat_tests)
 
   -- it is a least route
   pub route : {B : ℕ} {xs : List ℕ} → B < net.stations → Chain row A B xs → LeastRoute m net A row B xs
   route {B} {xs} within chain =
       let walk = walked within chain in
+      let at_most = once linked.none_at_source chain in
       record {
         cost = walk.cost;
         walk = walk.walk;
         costs_that = walk.costs_that;
         passes = walk.passes;
-        none_twice = record { at_most_once = λ s. let c = (counted within chain s).0 in grind (arith, nat_tests) };
-        few = at_most_all net.stations xs (λ s. (counted within chain s).0);
+        none_twice = record { at_most_once = at_most };
+        few = at_most_all net.stations xs (λ s. let one = at_most s in let t = there within chain s in grind (arith, nat_tests));
       }
 
-  -- and one leads to each station below FAR
-  reach_below : (b B : ℕ) → B < net.stations → height B < b → Below m (row.costs B) m.far → (xs : List ℕ) × Chain row A B xs
-  reach_below zero B within low near = absurd (omega arith)
-  reach_below (suc b) B within low near =
-      ⊎_elim
-      (λ e. subst (λ (z : ℕ). (xs : List ℕ) × Chain row A z xs) (sym e) (A ∷ [], begin))
-      (λ other.
-      let given = descends.some B within other near in
-      let f = descends.by_link B given.0 within given.1 in
-      let far = far_before laws (row.costs given.0) f.link.cost in
-      let fits = at_most_far laws (row.costs given.0) in
-      let tight = f.tight in
-      let near_before : Below m (row.costs given.0) m.far = grind (arith, cases_eq (m.rank (row.costs given.0)) (m.rank m.far)) in
-      let so_far = reach_below b given.0 f.station (omega (arith, f.rises)) near_before in
-      (so_far.0 ++ B ∷ [], after so_far.1 given.1))
-      (cases_eq B A)
+  -- where some height rises from each predecessor to the station after it, one leads to each station below FAR
+  module _ (height : ℕ → ℕ) (rises : (v p : ℕ) → v < net.stations → row.predecessors v ≡ Some p → height p < height v) where
+    reach_below : (b B : ℕ) → B < net.stations → height B < b → Below m (row.costs B) m.far → (xs : List ℕ) × Chain row A B xs
+    reach_below zero B within low near = absurd (omega arith)
+    reach_below (suc b) B within low near =
+        ⊎_elim
+        (λ e. subst (λ (z : ℕ). (xs : List ℕ) × Chain row A z xs) (sym e) (A ∷ [], begin))
+        (λ other.
+        let given = linked.some B within other near in
+        let f = linked.by_link B given.0 within given.1 in
+        let far = far_before laws (row.costs given.0) f.link.cost in
+        let fits = at_most_far laws (row.costs given.0) in
+        let tight = f.tight in
+        let near_before : Below m (row.costs given.0) m.far = grind (arith, cases_eq (m.rank (row.costs given.0)) (m.rank m.far)) in
+        let so_far = reach_below b given.0 f.station (omega (arith, rises B given.0 within given.1)) near_before in
+        (so_far.0 ++ B ∷ [], after so_far.1 given.1))
+        (cases_eq B A)
 
-  pub reach : (B : ℕ) → B < net.stations → Below m (row.costs B) m.far → (xs : List ℕ) × Chain row A B xs
-  reach B within = reach_below (suc (height B)) B within (omega arith)
+    pub reach : {B : ℕ} → B < net.stations → Below m (row.costs B) m.far → (xs : List ℕ) × Chain row A B xs × LeastRoute m net A row B xs
+    reach {B} within near = let by = reach_below (suc (height B)) B within (omega arith) near in (by.0, by.1, route within by.1)

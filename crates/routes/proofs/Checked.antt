@@ -5,7 +5,7 @@ use Rattle.std.specs.List.{Contains}
 use Rattle.cost.specs.Kind.{Kind, Same, AtMost, Below}
 use Rattle.cost.specs.Laws.{Laws, Strict, ZeroLeast}
 use Rattle.cost.specs.declared.link.Link.{Link}
-use Rattle.routes.proofs.Chains.{TightLink, Descends, route, reach}
+use Rattle.routes.proofs.Chains.{TightLink, Linked, reach}
 use Rattle.routes.proofs.Costs.{far_before, at_most_far}
 use Rattle.routes.proofs.JoinedWalks.{LastLink, link_of_last, last_ends, last_same, goes_on_to}
 use Rattle.routes.proofs.RightRows.{no_better}
@@ -77,21 +77,19 @@ module _ {K : Type 0} {m : Kind K} (laws : Laws m) {net : Network K} {A : ℕ} {
         omega (arith, laws.join_keeps_right (row.costs l.from) c l.cost (none_less walk))
 
     module _ (strict : Strict m) (none_free : NoneFree m net) where
-      -- a tight link leads up to each station from its predecessor
-      by_link : (B p : ℕ) → B < net.stations → row.predecessors B ≡ Some p → TightLink m net row (λ s. m.rank (row.costs s)) p B
+      -- a tight link leads to each station from its predecessor
+      by_link : (B p : ℕ) → B < net.stations → row.predecessors B ≡ Some p → TightLink m net row p B
       by_link B p within is =
           let h = holds B within in
           let by = h.linked p is in
           let tight = subst (λ (z : ℕ). Same m (m.joined (row.costs z) by.link.cost) (row.costs B)) by.starts (h.tight p is by.link by.laid by.starts by.ends) in
-          let other : B ≡ A → ⊥ = λ e. let none = h.none_at_source e in cc in
-          let near : Same m (row.costs B) m.far → ⊥ = λ far. let none = (h.none_at_far other).1 (omega (arith, laws.far_rank)) in cc in
-          let rises = joins_from_below laws strict (row.costs p) (row.costs B) by.link.cost tight near (none_free by.link by.laid) in
-          record { station = h.station p is; rises = rises; link = by.link; laid = by.laid; starts = by.starts; ends = by.ends; tight = tight }
+          record { station = h.station p is; link = by.link; laid = by.laid; starts = by.starts; ends = by.ends; tight = tight }
 
-      descends : Descends m net A row (λ s. m.rank (row.costs s))
-      descends =
+      linked : Linked m net A row
+      linked =
           record {
             zero_at_source = (holds A source).zero_at_source refl;
+            none_at_source = (holds A source).none_at_source refl;
             by_link = by_link;
             some = λ B within other near. ⊎_elim
                 (λ none. absurd (omega (arith, ((holds B within).none_at_far other).0 none, laws.far_rank)))
@@ -99,11 +97,19 @@ module _ {K : Type 0} {m : Kind K} (laws : Laws m) {net : Network K} {A : ℕ} {
                 (given_or_missing (row.predecessors B));
           }
 
+      -- from below, since no link is free
+      rises : (B p : ℕ) → B < net.stations → row.predecessors B ≡ Some p → m.rank (row.costs p) < m.rank (row.costs B)
+      rises B p within is =
+          let h = holds B within in
+          let f = by_link B p within is in
+          let other : B ≡ A → ⊥ = λ e. let none = h.none_at_source e in cc in
+          let near : Same m (row.costs B) m.far → ⊥ = λ far. let none = (h.none_at_far other).1 (omega (arith, laws.far_rank)) in cc in
+          joins_from_below laws strict (row.costs p) (row.costs B) f.link.cost f.tight near (none_free f.link f.laid)
+
       -- so each cost below FAR is that of a walk
       walked : (B : ℕ) → B < net.stations → (Same m (row.costs B) m.far → ⊥) → Costs m net A B (row.costs B)
       walked B within near =
-          let chain = reach laws source descends B within (omega (arith, at_most_far laws (row.costs B))) in
-          let by = route laws source descends within chain.1 in
+          let by = (reach laws source linked (λ s. m.rank (row.costs s)) rises within (omega (arith, at_most_far laws (row.costs B)))).2 in
           record { cost = by.cost; walk = by.walk; same = by.costs_that }
 
       holds_right : Right m net A row
@@ -117,7 +123,7 @@ module _ {K : Type 0} {m : Kind K} (laws : Laws m) {net : Network K} {A : ℕ} {
                 );
             given = λ B p within is.
                 let f = by_link B p within is in
-                let walk = walked p f.station (λ far. omega (arith, f.rises, at_most_far laws (row.costs B))) in
+                let walk = walked p f.station (λ far. omega (arith, rises B p within is, at_most_far laws (row.costs B))) in
                 last_same (goes_on_to laws f.link walk f.laid f.starts f.ends) f.tight;
           }
 

@@ -31,11 +31,10 @@ pub fn runs_end_right<K>()
     ensures right { (m : Kind K) → Laws m → ZeroLeast m → (task : Task K) (xs : List ℕ) (s : State K) → Workable task → RowsRight m task → (task.method ≡ Prune → Strict m) → Run m task xs s → Right m task.network task.source s.row }
 {}
 
-// Plain needs neither worked rows nor the strict laws: it ends in a right row, in which the predecessors lead from the source to each station
+// Plain needs neither worked rows nor the strict laws: it ends in a right row, in which a chain of predecessors leads from the source to each station
 // below FAR, on a walk of just its cost, past no station twice.
 #[tactic(auto, using(crate::proofs::PlainOrder::by_plain))]
 pub fn plain_needs_no_strict_law<K>()
     ensures right { (m : Kind K) → Laws m → ZeroLeast m → (task : Task K) (xs : List ℕ) (s : State K) → Workable task → task.method ≡ Plain → Run m task xs s → Right m task.network task.source s.row }
-    ensures reach { (m : Kind K) → Laws m → ZeroLeast m → (task : Task K) (xs : List ℕ) (s : State K) → Workable task → task.method ≡ Plain → Run m task xs s → (B : ℕ) → B < task.network.stations → Below m (s.row.costs B) m.far → (ys : List ℕ) × Chain s.row task.source B ys }
-    ensures route { (m : Kind K) → Laws m → ZeroLeast m → (task : Task K) (xs : List ℕ) (s : State K) → Workable task → task.method ≡ Plain → Run m task xs s → (B : ℕ) (ys : List ℕ) → B < task.network.stations → Chain s.row task.source B ys → LeastRoute m task.network task.source s.row B ys }
+    ensures reach { (m : Kind K) → Laws m → ZeroLeast m → (task : Task K) (xs : List ℕ) (s : State K) → Workable task → task.method ≡ Plain → Run m task xs s → (B : ℕ) → B < task.network.stations → Below m (s.row.costs B) m.far → (ys : List ℕ) × Chain s.row task.source B ys × LeastRoute m task.network task.source s.row B ys }
 {}
