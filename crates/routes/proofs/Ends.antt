@@ -7,7 +7,8 @@ use Rattle.cost.specs.Laws.{Laws, Strict, ZeroLeast}
 use Rattle.queue.specs.Meaning.{Nobody}
 use Rattle.routes.specs.Walk.{Walk, LastBefore}
 use Rattle.routes.specs.Row.{Right}
-use Rattle.routes.specs.Task.{Task, Workable, RowsRight, State, begun}
+use Rattle.routes.specs.Task.{Task, Workable, RowsRight}
+use Rattle.routes.specs.State.{State, begun}
 use Rattle.routes.specs.Methods.{offers}
 use Rattle.routes.specs.Runs.{taking, Reached, start, next, Run}
 use Rattle.routes.specs.declared.method.Method.TheVariants.{Plain, Prune}

@@ -6,7 +6,8 @@ use Rattle.cost.specs.Kind.{Kind}
 use Rattle.cost.specs.Laws.{Laws}
 use Rattle.cost.specs.declared.link.Link.{Link}
 use Rattle.routes.specs.Walk.{Costs}
-use Rattle.routes.specs.Task.{Task, State}
+use Rattle.routes.specs.Task.{Task}
+use Rattle.routes.specs.State.{State}
 use Rattle.routes.specs.Offers.{Offer}
 use Rattle.routes.specs.Methods.{plain}
 use Rattle.routes.specs.declared.method.Method.TheVariants.{Prune}

@@ -5,7 +5,8 @@ use Rattle.cost.specs.Laws.{Laws, Strict, ZeroLeast}
 use Rattle.queue.specs.Meaning.{Lowest}
 use Rattle.routes.specs.Walk.{Costs}
 use Rattle.routes.specs.Row.{Row}
-use Rattle.routes.specs.Task.{Task, Workable, RowsRight, State}
+use Rattle.routes.specs.Task.{Task, Workable, RowsRight}
+use Rattle.routes.specs.State.{State}
 use Rattle.routes.specs.Methods.{reuse, by_method, offers}
 use Rattle.routes.specs.declared.method.Method.{Method}
 use Rattle.routes.specs.declared.method.Method.TheVariants.{Plain, Reuse, Prune}

@@ -9,7 +9,8 @@ use Rattle.cost.specs.declared.link.Link.{Link}
 use Rattle.routes.specs.Network.{Between}
 use Rattle.routes.specs.Walk.{Walk, stay, on, Costs}
 use Rattle.routes.specs.Row.{Row, Right}
-use Rattle.routes.specs.Task.{Task, RowsRight, State}
+use Rattle.routes.specs.Task.{Task, RowsRight}
+use Rattle.routes.specs.State.{State}
 use Rattle.routes.specs.Offers.{Offer}
 use Rattle.routes.specs.Methods.{tight, prune, first_through, row_of, guided}
 use Rattle.routes.specs.declared.method.Method.TheVariants.{Prune}

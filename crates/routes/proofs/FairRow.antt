@@ -7,7 +7,8 @@ use Rattle.cost.specs.declared.link.Link.{Link}
 use Rattle.routes.specs.Network.{Between}
 use Rattle.routes.specs.Walk.{Costs}
 use Rattle.routes.specs.Row.{Row, Right}
-use Rattle.routes.specs.Task.{Task, State}
+use Rattle.routes.specs.Task.{Task}
+use Rattle.routes.specs.State.{State}
 use Rattle.routes.specs.Offers.{Offer}
 use Rattle.routes.specs.Methods.{along_row}
 use Rattle.routes.specs.declared.method.Method.TheVariants.{Prune}

@@ -7,7 +7,7 @@ use Rattle.cost.specs.Kind.{Kind, AtMost, Below}
 use Rattle.queue.specs.Calls.{at_rank, after_put}
 use Rattle.queue.specs.Meaning.{Meaning, Waits, Lowest}
 use Rattle.routes.proofs.Members.{in_none, in_first, in_later, in_cases}
-use Rattle.routes.specs.Task.{State}
+use Rattle.routes.specs.State.{State}
 use Rattle.routes.specs.Runs.{taking}
 use Rattle.routes.specs.Offers.{Offer, taken_up, offered, offered_all}
 

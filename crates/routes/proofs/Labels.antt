@@ -7,7 +7,8 @@ use Rattle.cost.specs.Laws.{Laws, ZeroLeast}
 use Rattle.cost.specs.declared.link.Link.{Link}
 use Rattle.queue.specs.Meaning.{Lowest}
 use Rattle.routes.specs.Walk.{Walk, stay, on, Costs, LastBefore}
-use Rattle.routes.specs.Task.{Task, State}
+use Rattle.routes.specs.Task.{Task}
+use Rattle.routes.specs.State.{State}
 use Rattle.routes.specs.declared.method.Method.TheVariants.{Prune}
 use Rattle.routes.proofs.Costs.{on_no_less, at_most_far}
 use Rattle.routes.proofs.Follows.{Ranked, waits, lowest_label}

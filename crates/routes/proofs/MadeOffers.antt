@@ -6,7 +6,7 @@ use Rattle.cost.specs.Kind.{Kind}
 use Rattle.cost.specs.declared.link.Link.{Link}
 use Rattle.routes.specs.Network.{Network}
 use Rattle.routes.specs.Row.{Row}
-use Rattle.routes.specs.Task.{State}
+use Rattle.routes.specs.State.{State}
 use Rattle.routes.specs.Offers.{Offer}
 use Rattle.routes.specs.Methods.{over_links, links_from, along_row}
 use Rattle.routes.proofs.Members.{in_map, in_from_map, in_filter, in_from_filter, in_range, in_from_range}
@@ -18,11 +18,11 @@ module _ {K : Type 0} (m : Kind K) (s : State K) (t : ℕ) where
     over l = record { station = l.to; cost = m.joined (s.row.costs t) l.cost; predecessor = Some t; first = first l.to; puts = true }
 
     abbrev pub all_over : List (Offer K)
-    all_over = over_links m s t first (links_from m net t pick)
+    all_over = over_links m s t first (links_from net t pick)
 
     pub link_of : (o : Offer K) → Contains all_over o → (l : Link K) × Contains net.links l × (l.from ≡ t) × (over l ≡ o)
     link_of o has =
-        let l = in_from_map over (links_from m net t pick) o has in
+        let l = in_from_map over (links_from net t pick) o has in
         let f = in_from_filter (λ l. l.from == t && pick l) net.links l.0 l.1 in
         (l.0, f.0, eqb-true l.0.from t (and_parts (l.0.from == t) (pick l.0) f.1).0, l.2)
 
@@ -31,7 +31,7 @@ module _ {K : Type 0} (m : Kind K) (s : State K) (t : ℕ) where
 
     pub in_over : (l : Link K) → Contains net.links l → l.from ≡ t → pick l ≡ true → Contains all_over (over l)
     in_over l laid from picked =
-        in_map over (links_from m net t pick) l (in_filter (λ l. l.from == t && pick l) net.links l laid (and_from (l.from == t) (pick l) (eq-eqb l.from t from) picked))
+        in_map over (links_from net t pick) l (in_filter (λ l. l.from == t && pick l) net.links l laid (and_from (l.from == t) (pick l) (eq-eqb l.from t from) picked))
 
   -- for a station along a row
   module _ (n : ℕ) (row : Row K) where

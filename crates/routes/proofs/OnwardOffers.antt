@@ -5,7 +5,8 @@ use Rattle.cost.specs.Kind.{Kind}
 use Rattle.cost.specs.Laws.{Laws, ZeroLeast}
 use Rattle.cost.specs.declared.link.Link.{Link}
 use Rattle.routes.specs.Row.{Row}
-use Rattle.routes.specs.Task.{Task, State, Workable}
+use Rattle.routes.specs.Task.{Task, Workable}
+use Rattle.routes.specs.State.{State}
 use Rattle.routes.specs.Offers.{Offer}
 use Rattle.routes.specs.Methods.{reuse, by_method, offers}
 use Rattle.routes.specs.declared.method.Method.{Method}

@@ -12,7 +12,8 @@ use Rattle.queue.specs.Drained.{times}
 use Rattle.queue.specs.Meaning.{Lowest}
 use Rattle.routes.specs.Row.{Right}
 use Rattle.routes.specs.Chain.{Chain, LeastRoute}
-use Rattle.routes.specs.Task.{Task, Workable, State}
+use Rattle.routes.specs.Task.{Task, Workable}
+use Rattle.routes.specs.State.{State}
 use Rattle.routes.specs.Methods.{offers, plain, by_method}
 use Rattle.routes.specs.Runs.{taking, followed, Reached, start, next, Run}
 use Rattle.routes.specs.declared.method.Method.{Method}

@@ -8,7 +8,7 @@ use Rattle.cost.specs.Kind.{Kind, FAR}
 use Rattle.queue.specs.Drained.{times}
 use Rattle.queue.specs.Meaning.{Lowest}
 use Rattle.routes.specs.Chain.{NoneTwice}
-use Rattle.routes.specs.Task.{State}
+use Rattle.routes.specs.State.{State}
 use Rattle.routes.specs.Offers.{Offer}
 use Rattle.routes.specs.Runs.{taking}
 use Rattle.routes.proofs.Follows.{waits, Ranked, Kept, Moved, Follows, waits_taking, ranked_taking, lowest_label}

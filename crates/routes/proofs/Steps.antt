@@ -6,7 +6,8 @@ use Rattle.std.proofs.lemmas.Bool.Decides.{nat_tests}
 use Rattle.cost.specs.Kind.{Kind, Same, AtMost, Below}
 use Rattle.cost.specs.Laws.{Laws, ZeroLeast}
 use Rattle.cost.specs.declared.link.Link.{Link}
-use Rattle.routes.specs.Task.{Task, State}
+use Rattle.routes.specs.Task.{Task}
+use Rattle.routes.specs.State.{State}
 use Rattle.routes.specs.Offers.{Offer}
 use Rattle.routes.specs.Runs.{taking}
 use Rattle.routes.specs.declared.method.Method.TheVariants.{Prune}

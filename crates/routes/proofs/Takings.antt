@@ -11,7 +11,8 @@ use Rattle.routes.specs.Chain.{NoneTwice}
 use Rattle.routes.specs.Offers.{Offer, offered, offered_all}
 use Rattle.routes.specs.Methods.{offers}
 use Rattle.routes.specs.Runs.{Reached, Run, start, next, taking, followed, below_far}
-use Rattle.routes.specs.Task.{Task, State, Workable, begun}
+use Rattle.routes.specs.Task.{Task, Workable}
+use Rattle.routes.specs.State.{State, begun}
 use Rattle.routes.specs.declared.method.Method.TheVariants.{Reuse}
 use Rattle.routes.proofs.Counting.{counted_few, at_most_counted, at_least_counted}
 use Rattle.routes.proofs.OnwardOffers.{offers_onward}

@@ -6,7 +6,7 @@ use Rattle.std.specs.List.{Contains, list_any}
 use Rattle.cost.specs.Kind.{Kind, FAR, Same}
 use Rattle.cost.specs.declared.link.Link.{Link}
 use Rattle.routes.proofs.Members.{in_from_any, any_from_in}
-use Rattle.routes.specs.Fails.{fails, leads, unlinked, loose, undercut, rank_at, rank_over, at_source, at_reach}
+use Rattle.routes.specs.Fails.{fails, leads, unlinked, loose, undercut, rank_at, rank_over, wrong_source, wrong_reach}
 use Rattle.routes.specs.Network.{Network}
 use Rattle.routes.specs.Row.{Row}
 
@@ -115,7 +115,7 @@ module _ {K : Type 0} (m : Kind K) (net : Network K) (A : ℕ) (row : Row K) (B 
   -- so a station of which they hold fails by no cause, and the other way round
   pub passes_from_holds : Holds m net A row B → (cause : ℕ) → fails m net A row B cause ≡ false
   passes_from_holds h cause =
-      by_none (at_source m net A row B) (at_reach m net A row B) (unlinked m net A row B (row.predecessors B)) (loose m net A row B (row.predecessors B)) (undercut m net A row B)
+      by_none (wrong_source m net A row B) (wrong_reach m net A row B) (unlinked m net A row B (row.predecessors B)) (loose m net A row B (row.predecessors B)) (undercut m net A row B)
       (source_test B A (m.rank (row.costs B)) (m.rank m.zero) (row.predecessors B) h.zero_at_source h.none_at_source)
       (reach_test B A (m.rank (row.costs B)) (row.predecessors B) h.none_at_far)
       (linked_test (row.predecessors B) h.station h.linked)
@@ -124,7 +124,7 @@ module _ {K : Type 0} (m : Kind K) (net : Network K) (A : ℕ) (row : Row K) (B 
 
   pub holds_from_passes : ((cause : ℕ) → fails m net A row B cause ≡ false) → Holds m net A row B
   holds_from_passes passes =
-      let tests = by_one (at_source m net A row B) (at_reach m net A row B) (unlinked m net A row B (row.predecessors B)) (loose m net A row B (row.predecessors B)) (undercut m net A row B) passes in
+      let tests = by_one (wrong_source m net A row B) (wrong_reach m net A row B) (unlinked m net A row B (row.predecessors B)) (loose m net A row B (row.predecessors B)) (undercut m net A row B) passes in
       record {
         zero_at_source = λ e. (from_source_test B A (m.rank (row.costs B)) (m.rank m.zero) (row.predecessors B) tests.0 e).0;
         none_at_source = λ e. (from_source_test B A (m.rank (row.costs B)) (m.rank m.zero) (row.predecessors B) tests.0 e).1;

@@ -1,9 +1,9 @@
 -- Chains of predecessors.
 --
---   Chain row A B xs            the stations xs lead from A to B, each but A after its predecessor in the row
---   NoneTwice xs                no station stands in xs twice
---   LeastRoute m net A row B xs   xs are the stations of a walk from A to B that costs what the row says of B, none twice, and so at most
---                               as many as there are stations
+--   Chain row A B xs               the stations xs lead from A to B, each but A after its predecessor in the row
+--   NoneTwice xs                   no station stands in xs twice
+--   LeastRoute m net A row B xs    xs are the stations of a walk from A to B that costs what the row says of B, none of them twice, and so
+--                                  at most as many as there are stations
 use Rattle.std.specs.Prelude.{◌≡◌, ℕ, ◌≤◌, List, [], ◌∷◌, ◌++◌, length, Some}
 use Rattle.cost.specs.Kind.{Kind, Same}
 use Rattle.queue.specs.Drained.{times}

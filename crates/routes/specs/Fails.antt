@@ -1,7 +1,7 @@
 -- The tests of a row against the links, and the causes by which a station B fails.
 --
---   at_source           1  B is the source, and has a cost other than zero, or a predecessor
---   at_reach            2  B is not the source, and has FAR with a predecessor, or a cost below FAR without one
+--   wrong_source        1  B is the source, and has a cost other than zero, or a predecessor
+--   wrong_reach         2  B is not the source, and has FAR with a predecessor, or a cost below FAR without one
 --   unlinked            3  B has a predecessor that is not a station, or from which no link leads to B
 --   loose               4  B has a predecessor from which a link leads to B, and whose cost joined with it is not B's cost
 --   undercut            5  a link leads to B from a station whose cost joined with it is below B's cost
@@ -25,11 +25,11 @@ module _ {K : Type 0} (m : Kind K) (net : Network K) (A : ℕ) (row : Row K) whe
   abbrev pub leads : ℕ → ℕ → Link K → Bool
   leads p B l = l.from == p && l.to == B
 
-  abbrev pub at_source : ℕ → Bool
-  at_source B = B == A && (not (rank_at B == m.rank m.zero) || is_some (row.predecessors B))
+  abbrev pub wrong_source : ℕ → Bool
+  wrong_source B = B == A && (not (rank_at B == m.rank m.zero) || is_some (row.predecessors B))
 
-  abbrev pub at_reach : ℕ → Bool
-  at_reach B = not (B == A) && cond (rank_at B == FAR) (is_some (row.predecessors B)) (is_none (row.predecessors B))
+  abbrev pub wrong_reach : ℕ → Bool
+  wrong_reach B = not (B == A) && cond (rank_at B == FAR) (is_some (row.predecessors B)) (is_none (row.predecessors B))
 
   abbrev pub unlinked : ℕ → Option ℕ → Bool
   unlinked B None = false
@@ -44,8 +44,8 @@ module _ {K : Type 0} (m : Kind K) (net : Network K) (A : ℕ) (row : Row K) whe
 
   abbrev pub fails : ℕ → ℕ → Bool
   fails B cause =
-      (cause == 1 && at_source B)
-      || (cause == 2 && at_reach B)
+      (cause == 1 && wrong_source B)
+      || (cause == 2 && wrong_reach B)
       || (cause == 3 && unlinked B (row.predecessors B))
       || (cause == 4 && loose B (row.predecessors B))
       || (cause == 5 && undercut B)

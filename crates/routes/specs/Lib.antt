@@ -5,6 +5,7 @@ pub mod Row
 pub mod Fails
 pub mod Chain
 pub mod Task
+pub mod State
 pub mod Offers
 pub mod Methods
 pub mod Runs

@@ -1,31 +1,32 @@
 -- The three methods: what a station that is taken offers to others.
 --
---   tight m row l          row's cost of where l begins, joined with l, equals its cost of where l ends, and is not FAR
 --   links_from net t pick    the links that leave t and are picked, in list order
---   over_links             t's label joined with each of these links, for the station where it ends
---   along_row              t's label joined with each cost of row t, with row t's predecessors, for all stations in order
---   plain                  over all links from t
---   reuse                  along row t where that is worked, else plain
---   prune                  where t is not the source, and the row of the first station after the source is worked, over the links
---                          that are tight in that row; else over all
---   offers m task s t      what t offers in state s by the task's method
+--   tight m row l            the row's cost of where l begins, joined with l, equals its cost of where l ends, which is not FAR
+--   over_links               t's label joined with each of the links given, for the station where it ends
+--   along_row                t's label joined with each cost of row t, with row t's predecessors, for all stations in order
+--   plain                    over all links from t
+--   reuse                    along row t where that is worked, else plain
+--   prune                    where t is not the source, and the row of its first station after the source is worked, over the links from t
+--                            that are tight in that row; else over all
+--   offers m task s t        what t offers in state s by the task's method
 use Rattle.std.specs.Prelude.{ℕ, Bool, true, false, not, ◌&&◌, ◌==◌, List, map, Option, Some, None, if◌then◌else◌}
 use Rattle.std.specs.List.{filter, range_with_len}
 use Rattle.cost.specs.Kind.{Kind, FAR}
 use Rattle.cost.specs.declared.link.Link.{Link}
 use Rattle.routes.specs.Network.{Network}
 use Rattle.routes.specs.Row.{Row}
-use Rattle.routes.specs.Task.{Task, State}
+use Rattle.routes.specs.Task.{Task}
+use Rattle.routes.specs.State.{State}
 use Rattle.routes.specs.Offers.{Offer}
 use Rattle.routes.specs.declared.method.Method.{Method}
 use Rattle.routes.specs.declared.method.Method.TheVariants.{Plain, Reuse, Prune}
 
+abbrev pub links_from : {K : Type 0} → Network K → ℕ → (Link K → Bool) → List (Link K)
+links_from net t pick = filter (λ l. l.from == t && pick l) net.links
+
 module _ {K : Type 0} (m : Kind K) where
   abbrev pub tight : Row K → Link K → Bool
   tight row l = m.rank (m.joined (row.costs l.from) l.cost) == m.rank (row.costs l.to) && not (m.rank (row.costs l.to) == FAR)
-
-  abbrev pub links_from : Network K → ℕ → (Link K → Bool) → List (Link K)
-  links_from net t pick = filter (λ l. l.from == t && pick l) net.links
 
   abbrev pub over_links : State K → ℕ → (ℕ → Option ℕ) → List (Link K) → List (Offer K)
   over_links s t first links =

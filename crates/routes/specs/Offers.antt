@@ -9,7 +9,7 @@ use Rattle.std.specs.Prelude.{ℕ, Bool, ◌||◌, List, Option, is_some, if◌t
 use Rattle.std.specs.List.{fold}
 use Rattle.cost.specs.Kind.{Kind}
 use Rattle.queue.specs.Calls.{after_put}
-use Rattle.routes.specs.Task.{State, written}
+use Rattle.routes.specs.State.{State, written}
 
 pub record Offer (K : Type 0) : Type 0 where
   pub station : ℕ

@@ -11,7 +11,8 @@ use Rattle.cost.specs.Kind.{Kind, FAR}
 use Rattle.queue.specs.Calls.{after_take}
 use Rattle.queue.specs.Meaning.{Lowest, Nobody}
 use Rattle.routes.specs.Row.{Row}
-use Rattle.routes.specs.Task.{Task, State, begun}
+use Rattle.routes.specs.Task.{Task}
+use Rattle.routes.specs.State.{State, begun}
 use Rattle.routes.specs.Offers.{offered_all}
 use Rattle.routes.specs.Methods.{offers}
 

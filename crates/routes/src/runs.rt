@@ -4,7 +4,8 @@ ghost use Rattle.cost.specs.Kind.{Kind, Below};
 ghost use Rattle.cost.specs.Laws.{Laws, Strict, ZeroLeast};
 ghost use Rattle.routes.specs.Row.{Right};
 ghost use Rattle.routes.specs.Chain.{Chain, NoneTwice, LeastRoute};
-ghost use Rattle.routes.specs.Task.{Task, Workable, RowsRight, State};
+ghost use Rattle.routes.specs.Task.{Task, Workable, RowsRight};
+ghost use Rattle.routes.specs.State.{State};
 ghost use Rattle.routes.specs.Runs.{Reached, Run, below_far};
 ghost use Rattle.routes.specs.declared.method.Method.TheVariants.{Plain, Reuse, Prune};
 
