@@ -11,10 +11,10 @@ use Rattle.cost.specs.declared.link.Link.{Link}
 use Rattle.queue.proofs.EachOnce.{none_below}
 use Rattle.queue.specs.Drained.{times}
 use Rattle.routes.proofs.Costs.{same_left, far_before, at_most_far}
-use Rattle.routes.specs.Chain.{Chain, source as begin, after, LeastRoute}
+use Rattle.routes.specs.Chain.{Chain, source as begin, after, Route}
 use Rattle.routes.specs.Network.{Network}
 use Rattle.routes.specs.Row.{Row}
-use Rattle.routes.specs.Walk.{Walk, stay, on, stations}
+use Rattle.routes.specs.Walk.{Walk, stay, on, stations_of}
 
 -- a link leads from station p to v, on which p's cost becomes v's
 pub record TightLink {K : Type 0} (m : Kind K) (net : Network K) (row : Row K) (p v : ℕ) : Type 0 where
@@ -48,7 +48,7 @@ record Walked {K : Type 0} (m : Kind K) (net : Network K) (A : ℕ) (row : Row K
   cost : K
   walk : Walk m net A B cost
   costs_that : Same m cost (row.costs B)
-  passes : stations walk ≡ xs
+  passes : stations_of walk ≡ xs
 
 module _ {K : Type 0} {row : Row K} {A : ℕ} where
   -- a station on a chain has a chain of its own, no longer
@@ -115,7 +115,7 @@ module _ {K : Type 0} {m : Kind K} (laws : Laws m) {net : Network K} {A : ℕ} {
       grind (arith, nat_tests)
 
   -- it is a least route
-  pub route : {B : ℕ} {xs : List ℕ} → B < net.stations → Chain row A B xs → LeastRoute m net A row B xs
+  pub route : {B : ℕ} {xs : List ℕ} → B < net.stations → Chain row A B xs → Route m net A row B xs
   route {B} {xs} within chain =
       let walk = walked within chain in
       let at_most = once linked.none_at_source chain in
@@ -146,5 +146,5 @@ module _ {K : Type 0} {m : Kind K} (laws : Laws m) {net : Network K} {A : ℕ} {
         (so_far.0 ++ B ∷ [], after so_far.1 given.1))
         (cases_eq B A)
 
-    pub reach : {B : ℕ} → B < net.stations → Below m (row.costs B) m.far → (xs : List ℕ) × Chain row A B xs × LeastRoute m net A row B xs
+    pub reach : {B : ℕ} → B < net.stations → Below m (row.costs B) m.far → (xs : List ℕ) × Chain row A B xs × Route m net A row B xs
     reach {B} within near = let by = reach_below (suc (height B)) B within (omega arith) near in (by.0, by.1, route within by.1)

@@ -13,7 +13,7 @@ use Rattle.routes.proofs.Tested.{Holds, passes_from_holds, holds_from_passes}
 use Rattle.routes.specs.Fails.{NoneFails}
 use Rattle.routes.specs.Network.{Network, Between, OnePerPair, NoneFree}
 use Rattle.routes.specs.Row.{Row, Right}
-use Rattle.routes.specs.Walk.{Walk, stay, on, Costs, LastBefore}
+use Rattle.routes.specs.Walk.{Walk, stay, on, SomeWalk, LastBefore}
 
 -- a predecessor is given or missing
 pub given_or_missing : (o : Option ℕ) → (o ≡ None) ⊎ ((p : ℕ) × (o ≡ Some p))
@@ -107,7 +107,7 @@ module _ {K : Type 0} {m : Kind K} (laws : Laws m) {net : Network K} {A : ℕ} {
           joins_from_below laws strict (row.costs p) (row.costs B) f.link.cost f.tight near (none_free f.link f.laid)
 
       -- so each cost below FAR is that of a walk
-      walked : (B : ℕ) → B < net.stations → (Same m (row.costs B) m.far → ⊥) → Costs m net A B (row.costs B)
+      walked : (B : ℕ) → B < net.stations → (Same m (row.costs B) m.far → ⊥) → SomeWalk m net A B (row.costs B)
       walked B within near =
           let by = (reach laws source linked (λ s. m.rank (row.costs s)) rises within (omega (arith, at_most_far laws (row.costs B)))).2 in
           record { cost = by.cost; walk = by.walk; same = by.costs_that }

@@ -5,7 +5,7 @@ use Rattle.std.proofs.lemmas.Bool.{true≢false}
 use Rattle.cost.specs.Kind.{Kind}
 use Rattle.cost.specs.Laws.{Laws}
 use Rattle.cost.specs.declared.link.Link.{Link}
-use Rattle.routes.specs.Walk.{Costs}
+use Rattle.routes.specs.Walk.{SomeWalk}
 use Rattle.routes.specs.Task.{Task}
 use Rattle.routes.specs.State.{State}
 use Rattle.routes.specs.Offers.{Offer}
@@ -16,7 +16,7 @@ use Rattle.routes.proofs.MadeOffers.{over, all_over, each_over, in_over}
 use Rattle.routes.proofs.Labels.{Preceded}
 use Rattle.routes.proofs.Steps.{OfferedTo, Fair}
 
-module _ {K : Type 0} {m : Kind K} (laws : Laws m) (task : Task K) (s : State K) (t : ℕ) (walk : Costs m task.network task.source t (s.row.costs t)) where
+module _ {K : Type 0} {m : Kind K} (laws : Laws m) (task : Task K) (s : State K) (t : ℕ) (walk : SomeWalk m task.network task.source t (s.row.costs t)) where
   -- over links that are picked
   module _ (first : ℕ → Option ℕ) (pick : Link K → Bool) where
     pub given_over : (o : Offer K) → Contains (all_over m s t task.network first pick) o → Preceded m task o.predecessor o.station o.cost

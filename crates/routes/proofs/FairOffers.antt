@@ -3,7 +3,7 @@ use Rattle.std.proofs.Common.{◌≡◌, ℕ, ◌<◌, List, Option, Some, None,
 use Rattle.cost.specs.Kind.{Kind, Below}
 use Rattle.cost.specs.Laws.{Laws, Strict, ZeroLeast}
 use Rattle.queue.specs.Meaning.{Lowest}
-use Rattle.routes.specs.Walk.{Costs}
+use Rattle.routes.specs.Walk.{SomeWalk}
 use Rattle.routes.specs.Row.{Row}
 use Rattle.routes.specs.Task.{Task, Workable, RowsRight}
 use Rattle.routes.specs.State.{State}
@@ -26,7 +26,7 @@ module _ {K : Type 0} {m : Kind K} (laws : Laws m) (zero_least : ZeroLeast m) {t
     t_below : Below m (s.row.costs t) m.far
     t_below = let near = (standing.waiting t (ap is_some lowest.waits)).1 in let far = laws.far_rank in omega arith
 
-    walk : Costs m task.network task.source t (s.row.costs t)
+    walk : SomeWalk m task.network task.source t (s.row.costs t)
     walk = walked m task laws zero_least labels t t_below
 
     fair_reuse : RowsRight m task → (task.method ≡ Prune → ⊥) → (q : Option (Row K)) → task.rows t ≡ q → Fair m task s t (reuse m task s t q)

@@ -7,7 +7,7 @@ use Rattle.cost.specs.Kind.{Kind, FAR, Same, AtMost, Below}
 use Rattle.cost.specs.Laws.{Laws, Strict}
 use Rattle.cost.specs.declared.link.Link.{Link}
 use Rattle.routes.specs.Network.{Between}
-use Rattle.routes.specs.Walk.{Walk, stay, on, Costs}
+use Rattle.routes.specs.Walk.{Walk, stay, on, SomeWalk}
 use Rattle.routes.specs.Row.{Row, Right}
 use Rattle.routes.specs.Task.{Task, RowsRight}
 use Rattle.routes.specs.State.{State}
@@ -23,14 +23,14 @@ use Rattle.routes.proofs.Steps.{Fair}
 use Rattle.routes.proofs.FairLinks.{given_over, covers_over, all_put}
 
 module _ {K : Type 0} {m : Kind K} (laws : Laws m) (strict : Strict m) (task : Task K) (between : Between task.network) {s : State K} (labels : Labels m task s) (t : ℕ)
-    (t_there : t < task.network.stations) (t_below : Below m (s.row.costs t) m.far) (walk : Costs m task.network task.source t (s.row.costs t))
+    (t_there : t < task.network.stations) (t_below : Below m (s.row.costs t) m.far) (walk : SomeWalk m task.network task.source t (s.row.costs t))
     (final : (c : K) → Walk m task.network task.source t c → AtMost m (s.row.costs t) c)
   where
     -- a link from t that is not tight in the row of t's first station w
     module _ (by : Through m task (s.firsts t) t (s.row.costs t)) (row : Row K) (right : Right m task.network by.link.to row)
         (l : Link K) (laid : Contains task.network.links l) (from : l.from ≡ t) (loose : tight m row l ≡ false)
       where
-        to_first : Costs m task.network task.source by.link.to by.link.cost
+        to_first : SomeWalk m task.network task.source by.link.to by.link.cost
         to_first = costs_same (costs_from_last (goes_on_to laws by.link (walk_costs stay) by.laid by.leaves refl)) (laws.zero_left by.link.cost)
 
         -- w's cost of t, and of where the link ends

@@ -5,7 +5,7 @@ use Rattle.cost.specs.Kind.{Kind, Same, AtMost, Below}
 use Rattle.cost.specs.Laws.{Laws, ZeroLeast}
 use Rattle.cost.specs.declared.link.Link.{Link}
 use Rattle.routes.specs.Network.{Between}
-use Rattle.routes.specs.Walk.{Costs}
+use Rattle.routes.specs.Walk.{SomeWalk}
 use Rattle.routes.specs.Row.{Row, Right}
 use Rattle.routes.specs.Task.{Task}
 use Rattle.routes.specs.State.{State}
@@ -20,7 +20,7 @@ use Rattle.routes.proofs.Labels.{Preceded}
 use Rattle.routes.proofs.Steps.{OfferedTo, Fair}
 
 module _ {K : Type 0} {m : Kind K} (laws : Laws m) (zero_least : ZeroLeast m) (task : Task K) (between : Between task.network) (s : State K) (t : ℕ)
-    (walk : Costs m task.network task.source t (s.row.costs t)) (t_there : t < task.network.stations) (row : Row K) (right : Right m task.network t row)
+    (walk : SomeWalk m task.network task.source t (s.row.costs t)) (t_there : t < task.network.stations) (row : Row K) (right : Right m task.network t row)
   where
     offered_along : (v : ℕ) (c : K) → v < task.network.stations → AtMost m (m.joined (s.row.costs t) (row.costs v)) c → OfferedTo m task (along_row m s t task.network.stations row) v c
     offered_along v c there le = record { offer = along m s t task.network.stations row v; made = in_along m s t task.network.stations row v there; here = refl; at_most = le }

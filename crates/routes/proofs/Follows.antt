@@ -9,7 +9,7 @@ use Rattle.queue.specs.Meaning.{Meaning, Waits, Lowest}
 use Rattle.routes.proofs.Members.{in_none, in_first, in_later, in_cases}
 use Rattle.routes.specs.State.{State}
 use Rattle.routes.specs.Runs.{taking}
-use Rattle.routes.specs.Offers.{Offer, taken_up, offered, offered_all}
+use Rattle.routes.specs.Offers.{Offer, accepted, offered, offered_all}
 
 -- whether a station waits
 abbrev pub waits : {K : Type 0} → State K → ℕ → Bool
@@ -48,16 +48,16 @@ ranks_if false p q v = refl
 module _ {K : Type 0} (m : Kind K) where
   -- an offer that is taken up
   module _ (s : State K) (o : Offer K) (below : Below m o.cost (s.row.costs o.station)) where
-    ranks_after : (v : ℕ) → (taken_up m s o).queue.ranks v ≡ (if o.puts || waits s o.station then (after_put s.queue o.station (m.rank o.cost)).ranks v else s.queue.ranks v)
+    ranks_after : (v : ℕ) → (accepted m s o).queue.ranks v ≡ (if o.puts || waits s o.station then (after_put s.queue o.station (m.rank o.cost)).ranks v else s.queue.ranks v)
     ranks_after v = ranks_if (o.puts || waits s o.station) (after_put s.queue o.station (m.rank o.cost)) s.queue v
 
-    taken_up_waits : (o.puts ≡ true) ⊎ (o.puts ≡ false) → (waits s o.station ≡ true) ⊎ (waits s o.station ≡ false)
-        → (waits (taken_up m s o) o.station ≡ true) ⊎ ((o.puts ≡ false) × (waits (taken_up m s o) o.station ≡ false) × (waits s o.station ≡ false))
-    taken_up_waits (inl p) w = let e = ranks_after o.station in inl (grind (arith, nat_tests))
-    taken_up_waits (inr p) (inl w) = let e = ranks_after o.station in inl (grind (arith, nat_tests))
-    taken_up_waits (inr p) (inr w) = let e = ranks_after o.station in inr (p, grind (arith, nat_tests), w)
+    accepted_waits : (o.puts ≡ true) ⊎ (o.puts ≡ false) → (waits s o.station ≡ true) ⊎ (waits s o.station ≡ false)
+        → (waits (accepted m s o) o.station ≡ true) ⊎ ((o.puts ≡ false) × (waits (accepted m s o) o.station ≡ false) × (waits s o.station ≡ false))
+    accepted_waits (inl p) w = let e = ranks_after o.station in inl (grind (arith, nat_tests))
+    accepted_waits (inr p) (inl w) = let e = ranks_after o.station in inl (grind (arith, nat_tests))
+    accepted_waits (inr p) (inr w) = let e = ranks_after o.station in inr (p, grind (arith, nat_tests), w)
 
-    moved_by : Moved m s (o ∷ []) o.station (taken_up m s o)
+    moved_by : Moved m s (o ∷ []) o.station (accepted m s o)
     moved_by = record {
       offer = o;
       made = (0, omega arith, refl);
@@ -66,10 +66,10 @@ module _ {K : Type 0} (m : Kind K) where
       cost = grind (arith, nat_tests);
       predecessor = grind (arith, nat_tests);
       first = grind (arith, nat_tests);
-      waiting = taken_up_waits (cases_Bool o.puts) (cases_Bool (waits s o.station));
+      waiting = accepted_waits (cases_Bool o.puts) (cases_Bool (waits s o.station));
     }
 
-    others_kept : (v : ℕ) → (v ≡ o.station → ⊥) → Kept s v (taken_up m s o)
+    others_kept : (v : ℕ) → (v ≡ o.station → ⊥) → Kept s v (accepted m s o)
     others_kept v ne = record {
       cost = grind (arith, nat_tests);
       predecessor = grind (arith, nat_tests);
@@ -82,27 +82,27 @@ module _ {K : Type 0} (m : Kind K) where
     at_new_rank None r = refl
     at_new_rank (Some y) r = let e = r y refl in omega (arith, below)
 
-    ranked_here : Ranked m s → (x : ℕ) → Waits (taken_up m s o).queue o.station x → x ≡ m.rank ((taken_up m s o).row.costs o.station)
+    ranked_here : Ranked m s → (x : ℕ) → Waits (accepted m s o).queue o.station x → x ≡ m.rank ((accepted m s o).row.costs o.station)
     ranked_here ranked x w =
         let e = ranks_after o.station in
         let n = at_new_rank (s.queue.ranks o.station) (ranked o.station) in
         grind (arith, nat_tests)
 
-    ranked_others : Ranked m s → (v x : ℕ) → (v ≡ o.station → ⊥) → Waits (taken_up m s o).queue v x → x ≡ m.rank ((taken_up m s o).row.costs v)
+    ranked_others : Ranked m s → (v x : ℕ) → (v ≡ o.station → ⊥) → Waits (accepted m s o).queue v x → x ≡ m.rank ((accepted m s o).row.costs v)
     ranked_others ranked v x ne w =
         let e = ranks_after v in
         let r = ranked v x in
         grind (arith, nat_tests)
 
-    ranked_on : Ranked m s → Ranked m (taken_up m s o)
+    ranked_on : Ranked m s → Ranked m (accepted m s o)
     ranked_on ranked v x w =
         ⊎_elim
-        (λ (e : v ≡ o.station). subst (λ (u : ℕ). Waits (taken_up m s o).queue u x → x ≡ m.rank ((taken_up m s o).row.costs u)) (sym e) (ranked_here ranked x) w)
+        (λ (e : v ≡ o.station). subst (λ (u : ℕ). Waits (accepted m s o).queue u x → x ≡ m.rank ((accepted m s o).row.costs u)) (sym e) (ranked_here ranked x) w)
         (λ (ne : v ≡ o.station → ⊥). ranked_others ranked v x ne w)
         (cases_eq v o.station)
 
   -- what is said of states and holds whether or not an offer is taken up
-  by_offer : (s : State K) (o : Offer K) (P : State K → Type 0) → (Below m o.cost (s.row.costs o.station) → P (taken_up m s o)) → (AtMost m (s.row.costs o.station) o.cost → P s) → P (offered m s o)
+  by_offer : (s : State K) (o : Offer K) (P : State K → Type 0) → (Below m o.cost (s.row.costs o.station) → P (accepted m s o)) → (AtMost m (s.row.costs o.station) o.cost → P s) → P (offered m s o)
   by_offer s o P up not_up =
       ⊎_elim
       (λ (lt : Below m o.cost (s.row.costs o.station)). rw (lt-ltb (m.rank o.cost) (m.rank (s.row.costs o.station)) lt) (up lt))
@@ -131,10 +131,10 @@ module _ {K : Type 0} (m : Kind K) where
       by_offer s o (Follows s (o ∷ []))
       (λ below. record {
         fate = λ v. ⊎_elim
-            (λ (e : v ≡ o.station). inr (subst (λ (u : ℕ). Moved m s (o ∷ []) u (taken_up m s o)) (sym e) (moved_by s o below)))
+            (λ (e : v ≡ o.station). inr (subst (λ (u : ℕ). Moved m s (o ∷ []) u (accepted m s o)) (sym e) (moved_by s o below)))
             (λ (ne : v ≡ o.station → ⊥). inl (others_kept s o below v ne))
             (cases_eq v o.station);
-        at_most = only o (λ o'. AtMost m ((taken_up m s o).row.costs o'.station) o'.cost) (grind (arith, nat_tests));
+        at_most = only o (λ o'. AtMost m ((accepted m s o).row.costs o'.station) o'.cost) (grind (arith, nat_tests));
         ranked = ranked_on s o below;
       })
       (λ above. record { fate = λ v. inl (all_kept s v); at_most = only o (λ o'. AtMost m (s.row.costs o'.station) o'.cost) above; ranked = λ r. r })

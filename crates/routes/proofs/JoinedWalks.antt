@@ -6,7 +6,7 @@ use Rattle.cost.specs.Laws.{Laws}
 use Rattle.cost.specs.declared.link.Link.{Link}
 use Rattle.routes.proofs.Costs.{same_left, same_right}
 use Rattle.routes.specs.Network.{Network, Between}
-use Rattle.routes.specs.Walk.{Walk, stay, on, before, Costs, LastBefore}
+use Rattle.routes.specs.Walk.{Walk, stay, on, before, SomeWalk, LastBefore}
 
 -- a walk from A to p, and a link from p to B by which it goes on at cost c
 pub record LastLink {K : Type 0} (m : Kind K) (net : Network K) (A p B : ℕ) (c : K) : Type 0 where
@@ -20,15 +20,15 @@ pub record LastLink {K : Type 0} (m : Kind K) (net : Network K) (A p B : ℕ) (c
 
 module _ {K : Type 0} {m : Kind K} {net : Network K} {A : ℕ} where
   -- what a walk costs, something costs
-  pub walk_costs : {B : ℕ} {c : K} → Walk m net A B c → Costs m net A B c
+  pub walk_costs : {B : ℕ} {c : K} → Walk m net A B c → SomeWalk m net A B c
   walk_costs {c = c} walk = record { cost = c; walk = walk; same = refl }
 
   -- one that p stands last before the end of costs that
-  pub costs_from_last : {p B : ℕ} {c : K} → LastBefore m net A p B c → Costs m net A B c
+  pub costs_from_last : {p B : ℕ} {c : K} → LastBefore m net A p B c → SomeWalk m net A B c
   costs_from_last last = record { cost = last.cost; walk = last.walk; same = last.same }
 
   -- equal costs
-  pub costs_same : {B : ℕ} {c d : K} → Costs m net A B c → Same m c d → Costs m net A B d
+  pub costs_same : {B : ℕ} {c d : K} → SomeWalk m net A B c → Same m c d → SomeWalk m net A B d
   costs_same costs e = record { cost = costs.cost; walk = costs.walk; same = costs.same ∙ e }
 
   pub last_same : {p B : ℕ} {c d : K} → LastBefore m net A p B c → Same m c d → LastBefore m net A p B d
@@ -61,7 +61,7 @@ module _ {K : Type 0} {m : Kind K} {net : Network K} {A : ℕ} where
     walk_ends stay = source
     walk_ends (on {l = l} walk laid) = (between l laid).1
 
-    pub costs_ends : {B : ℕ} {c : K} → Costs m net A B c → B < net.stations
+    pub costs_ends : {B : ℕ} {c : K} → SomeWalk m net A B c → B < net.stations
     costs_ends costs = walk_ends costs.walk
 
     pub last_ends : {p B : ℕ} {c : K} → LastBefore m net A p B c → p < net.stations
@@ -69,27 +69,27 @@ module _ {K : Type 0} {m : Kind K} {net : Network K} {A : ℕ} where
 
 module _ {K : Type 0} {m : Kind K} (laws : Laws m) {net : Network K} {A : ℕ} where
   -- a walk goes on by a link
-  pub goes_on : {c : K} (l : Link K) → Costs m net A l.from c → Contains net.links l → LastBefore m net A l.from l.to (m.joined c l.cost)
+  pub goes_on : {c : K} (l : Link K) → SomeWalk m net A l.from c → Contains net.links l → LastBefore m net A l.from l.to (m.joined c l.cost)
   goes_on {c} l costs laid =
       record { cost = m.joined costs.cost l.cost; walk = on costs.walk laid; same = same_left laws costs.cost c l.cost costs.same; last = refl }
 
-  pub goes_on_to : {p B : ℕ} {c : K} (l : Link K) → Costs m net A p c → Contains net.links l → l.from ≡ p → l.to ≡ B → LastBefore m net A p B (m.joined c l.cost)
+  pub goes_on_to : {p B : ℕ} {c : K} (l : Link K) → SomeWalk m net A p c → Contains net.links l → l.from ≡ p → l.to ≡ B → LastBefore m net A p B (m.joined c l.cost)
   goes_on_to {p} {B} {c} l costs laid starts ends =
       last_of_link (record { cost = costs.cost; walk = costs.walk; link = l; laid = laid; starts = starts; ends = ends; same = same_left laws costs.cost c l.cost costs.same })
 
   -- and by a walk
-  goes_along : {t v : ℕ} {c d : K} → Walk m net A t c → Walk m net t v d → Costs m net A v (m.joined c d)
+  goes_along : {t v : ℕ} {c d : K} → Walk m net A t c → Walk m net t v d → SomeWalk m net A v (m.joined c d)
   goes_along {c = c} first stay = record { cost = c; walk = first; same = sym (laws.zero_right c) }
   goes_along {c = c} first (on {c = e} {l = l} walk laid) =
       costs_same (costs_from_last (goes_on l (goes_along first walk) laid)) (laws.join_associative c e l.cost)
 
-  pub along : {t v : ℕ} {c d : K} → Costs m net A t c → Costs m net t v d → Costs m net A v (m.joined c d)
+  pub along : {t v : ℕ} {c d : K} → SomeWalk m net A t c → SomeWalk m net t v d → SomeWalk m net A v (m.joined c d)
   along {c = c} {d = d} first then =
       costs_same (goes_along first.walk then.walk)
       (same_left laws first.cost c then.cost first.same ∙ same_right laws then.cost d c then.same)
 
   -- past the station that stands last before the end
-  pub along_last : {t p v : ℕ} {c d : K} → Costs m net A t c → LastBefore m net t p v d → LastBefore m net A p v (m.joined c d)
+  pub along_last : {t p v : ℕ} {c d : K} → SomeWalk m net A t c → LastBefore m net t p v d → LastBefore m net A p v (m.joined c d)
   along_last {c = c} {d = d} first last =
       let by = link_of_last last in
       last_same (goes_on_to by.link (along first (walk_costs by.walk)) by.laid by.starts by.ends)

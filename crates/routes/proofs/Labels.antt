@@ -6,7 +6,7 @@ use Rattle.cost.specs.Kind.{Kind, FAR, Same, AtMost, Below}
 use Rattle.cost.specs.Laws.{Laws, ZeroLeast}
 use Rattle.cost.specs.declared.link.Link.{Link}
 use Rattle.queue.specs.Meaning.{Lowest}
-use Rattle.routes.specs.Walk.{Walk, stay, on, Costs, LastBefore}
+use Rattle.routes.specs.Walk.{Walk, stay, on, SomeWalk, LastBefore}
 use Rattle.routes.specs.Task.{Task}
 use Rattle.routes.specs.State.{State}
 use Rattle.routes.specs.declared.method.Method.TheVariants.{Prune}
@@ -53,10 +53,10 @@ module _ {K : Type 0} (m : Kind K) (task : Task K) where
 
   module _ (laws : Laws m) (zero_least : ZeroLeast m) {s : State K} (labels : Labels s) where
     -- every label below FAR is the cost of a walk
-    pub walked : (v : ℕ) → Below m (s.row.costs v) m.far → Costs m task.network task.source v (s.row.costs v)
+    pub walked : (v : ℕ) → Below m (s.row.costs v) m.far → SomeWalk m task.network task.source v (s.row.costs v)
     walked v below =
         ⊎_elim
-        (λ (e : v ≡ task.source). subst (λ (u : ℕ). Costs m task.network task.source u (s.row.costs u)) (sym e) (record {
+        (λ (e : v ≡ task.source). subst (λ (u : ℕ). SomeWalk m task.network task.source u (s.row.costs u)) (sym e) (record {
           cost = m.zero;
           walk = stay;
           same = ap m.rank (sym labels.source);

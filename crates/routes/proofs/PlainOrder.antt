@@ -11,7 +11,7 @@ use Rattle.cost.specs.Laws.{Laws, ZeroLeast}
 use Rattle.queue.specs.Drained.{times}
 use Rattle.queue.specs.Meaning.{Lowest}
 use Rattle.routes.specs.Row.{Right}
-use Rattle.routes.specs.Chain.{Chain, LeastRoute}
+use Rattle.routes.specs.Chain.{Chain, Route}
 use Rattle.routes.specs.Task.{Task, Workable}
 use Rattle.routes.specs.State.{State}
 use Rattle.routes.specs.Methods.{offers, plain, by_method}
@@ -92,7 +92,7 @@ module _ {K : Type 0} {m : Kind K} (laws : Laws m) (zero_least : ZeroLeast m) {t
   plain_right = right_at_end laws zero_least task workable (λ other. absurd (other is_plain)) (λ pruned. absurd (cc (is_plain, pruned)))
 
   pub plain_reach : {xs : List ℕ} {s : State K} → Run m task xs s → {B : ℕ} → B < task.network.stations → Below m (s.row.costs B) m.far
-      → (ys : List ℕ) × Chain s.row task.source B ys × LeastRoute m task.network task.source s.row B ys
+      → (ys : List ℕ) × Chain s.row task.source B ys × Route m task.network task.source s.row B ys
   plain_reach {xs} {s} run =
       right_reach laws zero_least workable.between workable.source_there (plain_right run) (λ v. when v xs) (λ v p there. earlier run.reached v p)
 

@@ -6,7 +6,7 @@ use Rattle.routes.proofs.Chains.{TightLink, Linked, route, reach}
 use Rattle.routes.proofs.Checked.{given_or_missing, joins_from_below, tight_last}
 use Rattle.routes.proofs.Costs.{zero_least_from_strict}
 use Rattle.routes.proofs.JoinedWalks.{link_of_last, last_ends}
-use Rattle.routes.specs.Chain.{Chain, LeastRoute}
+use Rattle.routes.specs.Chain.{Chain, Route}
 use Rattle.routes.specs.Network.{Network, Between, NoneFree}
 use Rattle.routes.specs.Row.{Row, Right}
 use Rattle.routes.specs.Walk.{stay}
@@ -33,17 +33,17 @@ module _ {K : Type 0} {m : Kind K} (laws : Laws m) (zero_least : ZeroLeast m) {n
       }
 
   -- so they lead along least routes alone
-  pub right_route : {B : ℕ} {xs : List ℕ} → B < net.stations → Chain row A B xs → LeastRoute m net A row B xs
+  pub right_route : {B : ℕ} {xs : List ℕ} → B < net.stations → Chain row A B xs → Route m net A row B xs
   right_route = route laws source linked
 
   -- and to each station below FAR, where some height rises from each to the station after it
   pub right_reach : (height : ℕ → ℕ) → ((v p : ℕ) → v < net.stations → row.predecessors v ≡ Some p → height p < height v)
-      → {B : ℕ} → B < net.stations → Below m (row.costs B) m.far → (xs : List ℕ) × Chain row A B xs × LeastRoute m net A row B xs
+      → {B : ℕ} → B < net.stations → Below m (row.costs B) m.far → (xs : List ℕ) × Chain row A B xs × Route m net A row B xs
   right_reach = reach laws source linked
 
 -- as costs do, if no link is free
 pub strict_reach : {K : Type 0} {m : Kind K} {net : Network K} {A B : ℕ} {row : Row K} → Laws m → Strict m → Between net → NoneFree m net → A < net.stations → B < net.stations
-    → Right m net A row → Below m (row.costs B) m.far → (xs : List ℕ) × Chain row A B xs × LeastRoute m net A row B xs
+    → Right m net A row → Below m (row.costs B) m.far → (xs : List ℕ) × Chain row A B xs × Route m net A row B xs
 strict_reach {m = m} {row = row} laws strict between none_free source within right =
     let zero_least = zero_least_from_strict laws strict in
     right_reach laws zero_least between source right (λ v. m.rank (row.costs v))

@@ -6,7 +6,7 @@ use Rattle.std.proofs.lemmas.List.{length_push, append-nil}
 use Rattle.cost.specs.Kind.{Kind, FAR}
 use Rattle.cost.specs.Laws.{Laws, ZeroLeast}
 use Rattle.queue.specs.Drained.{times}
-use Rattle.queue.specs.Meaning.{Nobody, Lowest, most_taken}
+use Rattle.queue.specs.Meaning.{Nobody, Lowest, most_stations, most_taken}
 use Rattle.routes.specs.Chain.{NoneTwice}
 use Rattle.routes.specs.Offers.{Offer, offered, offered_all}
 use Rattle.routes.specs.Methods.{offers}
@@ -98,16 +98,16 @@ module _ {K : Type 0} {m : Kind K} {task : Task K} (laws : Laws m) (zero_least :
       let so_far = taken_to_most reached in
       omega (arith, same_taken (taking s t) (offers m task s t), length_push xs t)
 
-  pub all_taken : {xs : List ℕ} {s : State K} → Reached m task xs s → s.queue.taken ≡ length xs
-  all_taken reached = omega (arith, taken_to_most reached, at_most_stations reached, workable.few)
+  pub all_taken : {xs : List ℕ} {s : State K} → task.network.stations ≤ most_stations → Reached m task xs s → s.queue.taken ≡ length xs
+  all_taken few reached = omega (arith, taken_to_most reached, at_most_stations reached)
 
   -- a whole run takes the source
   some_taken : {xs : List ℕ} {s : State K} → Reached m task xs s → Nobody s.queue → 1 ≤ length xs
   some_taken start nobody = let none = nobody task.source in grind (arith, nat_tests)
   some_taken (next {xs} {s} {t} reached low) nobody = omega (arith, length_push xs t)
 
-  pub run_takes : {xs : List ℕ} {s : State K} → Run m task xs s → 1 ≤ s.queue.taken
-  run_takes run = omega (arith, all_taken run.reached, some_taken run.reached run.over)
+  pub run_takes : {xs : List ℕ} {s : State K} → task.network.stations ≤ most_stations → Run m task xs s → 1 ≤ s.queue.taken
+  run_takes few run = omega (arith, all_taken few run.reached, some_taken run.reached run.over)
 
 -- what the contracts want
 pub ruleset ends = (none_twice, at_most_stations, ends_once)

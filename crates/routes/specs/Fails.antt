@@ -3,7 +3,7 @@
 --   wrong_source        1  B is the source, and has a cost other than zero, or a predecessor
 --   wrong_reach         2  B is not the source, and has FAR with a predecessor, or a cost below FAR without one
 --   unlinked            3  B has a predecessor that is not a station, or from which no link leads to B
---   loose               4  B has a predecessor from which a link leads to B, and whose cost joined with it is not B's cost
+--   loose               4  B has a predecessor whose cost, joined with some link that leads from it to B, is not B's cost
 --   undercut            5  a link leads to B from a station whose cost joined with it is below B's cost
 --   fails B cause       whether B fails by the cause of that number
 --   NoneFails           no station fails

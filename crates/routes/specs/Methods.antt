@@ -3,7 +3,7 @@
 --   links_from net t pick    the links that leave t and are picked, in list order
 --   tight m row l            the row's cost of where l begins, joined with l, equals its cost of where l ends, which is not FAR
 --   over_links               t's label joined with each of the links given, for the station where it ends
---   along_row                t's label joined with each cost of row t, with row t's predecessors, for all stations in order
+--   along_row                t's label joined with each cost of row t, with row t's predecessors, for all stations in order; it puts none
 --   plain                    over all links from t
 --   reuse                    along row t where that is worked, else plain
 --   prune                    where t is not the source, and the row of its first station after the source is worked, over the links from t

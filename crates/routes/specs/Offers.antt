@@ -1,10 +1,10 @@
 -- Offers of a better label.
 --
---   Offer K           a cost for a station, its predecessor and the first station after the source on that way, and whether
---                     the station is put if it does not wait
---   taken_up m s o    the state after an offer that is taken up; a station that waits does so at its new label's rank
---   offered m s o     an offer is taken up where its cost is below the station's label
---   offered_all m s os    one offer after the other
+--   Offer K               a cost for a station, with its predecessor and the first station after the source on that way; and whether
+--                         the station is put where it does not wait
+--   accepted m s o        the state s after an offer that is accepted; a station that waits does so at its new label's rank
+--   offered m s o         ... and after one that is made: it is accepted where its cost is below the station's label
+--   offered_all m s os    ... and after one offer after the other
 use Rattle.std.specs.Prelude.{ℕ, Bool, ◌||◌, List, Option, is_some, if◌then◌else◌, nat_lt}
 use Rattle.std.specs.List.{fold}
 use Rattle.cost.specs.Kind.{Kind}
@@ -18,8 +18,8 @@ pub record Offer (K : Type 0) : Type 0 where
   pub first : Option ℕ
   pub puts : Bool
 
-abbrev pub taken_up : {K : Type 0} → Kind K → State K → Offer K → State K
-taken_up m s o = record {
+abbrev pub accepted : {K : Type 0} → Kind K → State K → Offer K → State K
+accepted m s o = record {
   row = record {
     costs = written s.row.costs o.station o.cost;
     predecessors = written s.row.predecessors o.station o.predecessor;
@@ -29,7 +29,7 @@ taken_up m s o = record {
 }
 
 abbrev pub offered : {K : Type 0} → Kind K → State K → Offer K → State K
-offered m s o = if nat_lt (m.rank o.cost) (m.rank (s.row.costs o.station)) then taken_up m s o else s
+offered m s o = if nat_lt (m.rank o.cost) (m.rank (s.row.costs o.station)) then accepted m s o else s
 
 abbrev pub offered_all : {K : Type 0} → Kind K → State K → List (Offer K) → State K
 offered_all m s os = fold (offered m) s os

@@ -1,8 +1,8 @@
 -- Rows of a table: what it holds of the walks from one source.
 --
 --   Row K                 a cost and a predecessor for each station
---   Right m net A row     every cost is least; a predecessor is missing exactly at the source and at FAR; each one given stands
---                         last before its station on a walk of that least cost
+--   Right m net A row     of each station the cost is least; a predecessor is missing exactly at the source and at FAR; each one given
+--                         stands last before its station on a walk of that least cost
 use Rattle.std.specs.Prelude.{◌≡◌, ℕ, ◌<◌, Option, Some, None, ◌⊎◌, ◌↔◌}
 use Rattle.cost.specs.Kind.{Kind, Same}
 use Rattle.routes.specs.Network.{Network}

@@ -1,11 +1,10 @@
 -- What a row is worked from.
 --
 --   Task K              the network, the rows that are worked already, the source and the method
---   Workable task       the source is a station, a queue can hold the stations, and the links run between them
+--   Workable task       the source is a station, and the links run between stations
 --   RowsRight m task    the rows that are worked already are right
 use Rattle.std.specs.Prelude.{◌≡◌, ℕ, ◌<◌, ◌≤◌, Option, Some}
 use Rattle.cost.specs.Kind.{Kind}
-use Rattle.queue.specs.Meaning.{most_stations}
 use Rattle.routes.specs.Network.{Network, Between}
 use Rattle.routes.specs.Row.{Row, Right}
 use Rattle.routes.specs.declared.method.Method.{Method}
@@ -18,7 +17,6 @@ pub record Task (K : Type 0) : Type 0 where
 
 pub record Workable {K : Type 0} (task : Task K) : Type 0 where
   pub source_there : task.source < task.network.stations
-  pub few : task.network.stations ≤ most_stations
   pub between : Between task.network
 
 abbrev pub RowsRight : {K : Type 0} → Kind K → Task K → Type 0

@@ -1,6 +1,6 @@
 // Routes: walks, least costs and right rows, the methods by which a row is worked, and the theorems about them.
 // Rests on the costs and on the meaning of queues.
-// What works a row, or checks one, is proved against these definitions.
+// What works a row, or checks one, is to be proved against these definitions; nothing here is code but the methods' names.
 #![tactic(auto)]
 
 mod method;
@@ -9,6 +9,6 @@ mod runs;
 mod walks;
 
 pub use method::Method;
-pub use rows::{chains_are_least_routes, right_rows_pass};
+pub use rows::{chains_are_routes, right_rows_pass};
 pub use runs::{plain_needs_no_strict_law, runs_count, runs_end, runs_end_right};
 pub use walks::{least_costs_are_one, zero_is_least};

@@ -5,7 +5,7 @@ ghost use Rattle.cost.specs.Laws.{Laws, Strict, ZeroLeast};
 ghost use Rattle.routes.specs.Network.{Network, Between, OnePerPair, NoneFree};
 ghost use Rattle.routes.specs.Row.{Row, Right};
 ghost use Rattle.routes.specs.Fails.{NoneFails};
-ghost use Rattle.routes.specs.Chain.{Chain, LeastRoute};
+ghost use Rattle.routes.specs.Chain.{Chain, Route};
 
 // No station of a row fails exactly when the row is right.
 #[tactic(auto, using(crate::proofs::Checked::checked))]
@@ -14,10 +14,10 @@ pub fn right_rows_pass<K>()
     ensures right { (m : Kind K) → Laws m → Strict m → (net : Network K) (A : ℕ) (row : Row K) → Between net → NoneFree m net → A < net.stations → NoneFails m net A row → Right m net A row }
 {}
 
-// In a right row each chain of predecessors from the source is a walk of just the cost that the row says, past no station twice; and one leads to
-// each station below FAR, if no link is free.
+// In a right row each chain of predecessors from the source is a walk of just the cost that the row says, past no station twice. By the strict laws, one
+// leads to each station below FAR where no link costs zero.
 #[tactic(auto, using(crate::proofs::RightChains::by_right))]
-pub fn chains_are_least_routes<K>()
-    ensures route { (m : Kind K) → Laws m → ZeroLeast m → (net : Network K) (A B : ℕ) (row : Row K) (xs : List ℕ) → Between net → A < net.stations → B < net.stations → Right m net A row → Chain row A B xs → LeastRoute m net A row B xs }
-    ensures reach { (m : Kind K) → Laws m → Strict m → (net : Network K) (A B : ℕ) (row : Row K) → Between net → NoneFree m net → A < net.stations → B < net.stations → Right m net A row → Below m (row.costs B) m.far → (xs : List ℕ) × Chain row A B xs × LeastRoute m net A row B xs }
+pub fn chains_are_routes<K>()
+    ensures route { (m : Kind K) → Laws m → ZeroLeast m → (net : Network K) (A B : ℕ) (row : Row K) (xs : List ℕ) → Between net → A < net.stations → B < net.stations → Right m net A row → Chain row A B xs → Route m net A row B xs }
+    ensures reach { (m : Kind K) → Laws m → Strict m → (net : Network K) (A B : ℕ) (row : Row K) → Between net → NoneFree m net → A < net.stations → B < net.stations → Right m net A row → Below m (row.costs B) m.far → (xs : List ℕ) × Chain row A B xs × Route m net A row B xs }
 {}
