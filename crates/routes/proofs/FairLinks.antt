@@ -1,5 +1,5 @@
 -- What a station offers over its links, all of them, is fair.
-use Rattle.std.proofs.Common.{◌≡◌, ℕ, Bool, true, inl, Option, None, refl, sym, ◌∙◌, arith}
+use Rattle.std.proofs.Common.{◌≡◌, List, ℕ, Bool, true, inl, Option, None, refl, sym, ◌∙◌, arith}
 use Rattle.std.specs.List.{Contains}
 use Rattle.std.proofs.lemmas.Bool.{true≢false}
 use Rattle.cost.specs.Kind.{Kind}
@@ -16,7 +16,7 @@ use Rattle.routes.proofs.MadeOffers.{over, all_over, each_over, in_over}
 use Rattle.routes.proofs.Labels.{Preceded}
 use Rattle.routes.proofs.Steps.{OfferedTo, Fair}
 
-module _ {K : Type 0} {m : Kind K} (laws : Laws m) (task : Task K) (s : State K) (t : ℕ) (walk : SomeWalk m task.network task.source t (s.row.costs t)) where
+module _ {K : Type 0} {m : Kind K} (laws : Laws m) (task : Task K) (xs : List ℕ) (s : State K) (t : ℕ) (walk : SomeWalk m task.network task.source t (s.row.costs t)) where
   -- over links that are picked
   module _ (first : ℕ → Option ℕ) (pick : Link K → Bool) where
     pub given_over : (o : Offer K) → Contains (all_over m s t task.network first pick) o → Preceded m task o.predecessor o.station o.cost
@@ -31,7 +31,7 @@ module _ {K : Type 0} {m : Kind K} (laws : Laws m) (task : Task K) (s : State K)
     all_put = each_over m s t task.network first pick (λ o. o.puts ≡ true) (λ l laid from. refl)
 
   -- over all
-  pub fair_plain : (task.method ≡ Prune → ⊥) → Fair m task s t (plain m task s t)
+  pub fair_plain : (task.method ≡ Prune → ⊥) → Fair m task xs s t (plain m task s t)
   fair_plain other = record {
     given = λ o has below. given_over (λ v. None) (λ l. true) o has;
     firsts = λ prune. absurd (other prune);

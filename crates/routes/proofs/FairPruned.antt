@@ -1,11 +1,12 @@
 -- What a station offers over the links that are tight in its first station's row, if that is right, is fair: over any other link some walk is cheaper.
-use Rattle.std.proofs.Common.{◌≡◌, ℕ, ◌<◌, false, ◌⊎◌, inl, inr, ⊎_elim, Option, Some, None, refl, ap, subst, sym, ◌∙◌, arith, ◌≢◌, ◌==◌, if◌then◌else◌}
+use Rattle.std.proofs.Common.{◌≡◌, ◌≤◌, List, [], ◌∷◌, ◌++◌, ℕ, ◌<◌, false, ◌⊎◌, inl, inr, ⊎_elim, Option, Some, None, refl, ap, subst, sym, ◌∙◌, arith, ◌≢◌, ◌==◌, if◌then◌else◌}
 use Rattle.std.specs.List.{Contains}
 use Rattle.std.proofs.lemmas.Bool.{cases_eq, cases_Bool, eq-eqb, ne_eqb, true≢false}
 use Rattle.std.proofs.lemmas.Bool.Decides.{nat_tests}
 use Rattle.cost.specs.Kind.{Kind, FAR, Same, AtMost, Below}
 use Rattle.cost.specs.Laws.{Laws, Strict}
 use Rattle.cost.specs.declared.link.Link.{Link}
+use Rattle.queue.specs.Drained.{times}
 use Rattle.routes.specs.Network.{Between}
 use Rattle.routes.specs.Walk.{Walk, stay, on, SomeWalk}
 use Rattle.routes.specs.Row.{Row, Right}
@@ -17,17 +18,18 @@ use Rattle.routes.specs.declared.method.Method.TheVariants.{Prune}
 use Rattle.routes.proofs.Costs.{same_left, at_most_far, far_behind}
 use Rattle.routes.proofs.JoinedWalks.{goes_on_to, along, costs_from_last, costs_same, walk_costs}
 use Rattle.routes.proofs.MadeOffers.{each_over}
+use Rattle.routes.proofs.Standing.{in_push, last_in_push}
 use Rattle.routes.proofs.RightRows.{no_better}
 use Rattle.routes.proofs.Labels.{Cheaper, Through, Labels}
 use Rattle.routes.proofs.Steps.{Fair}
 use Rattle.routes.proofs.FairLinks.{given_over, covers_over, all_put}
 
-module _ {K : Type 0} {m : Kind K} (laws : Laws m) (strict : Strict m) (task : Task K) (between : Between task.network) {s : State K} (labels : Labels m task s) (t : ℕ)
+module _ {K : Type 0} {m : Kind K} (laws : Laws m) (strict : Strict m) (task : Task K) (between : Between task.network) {xs : List ℕ} {s : State K} (labels : Labels m task xs s) (t : ℕ)
     (t_there : t < task.network.stations) (t_below : Below m (s.row.costs t) m.far) (walk : SomeWalk m task.network task.source t (s.row.costs t))
     (final : (c : K) → Walk m task.network task.source t c → AtMost m (s.row.costs t) c)
   where
     -- a link from t that is not tight in the row of t's first station w
-    module _ (by : Through m task (s.firsts t) t (s.row.costs t)) (row : Row K) (right : Right m task.network by.link.to row)
+    module _ (by : Through m task xs (s.firsts t) t (s.row.costs t)) (row : Row K) (right : Right m task.network by.link.to row)
         (l : Link K) (laid : Contains task.network.links l) (from : l.from ≡ t) (loose : tight m row l ≡ false)
       where
         to_first : SomeWalk m task.network task.source by.link.to by.link.cost
@@ -87,12 +89,12 @@ module _ {K : Type 0} {m : Kind K} (laws : Laws m) (strict : Strict m) (task : T
             (cases_eq (m.rank (row.costs l.to)) FAR)
 
     -- so with those that are tight
-    module _ (rows_right : RowsRight m task) (pruned : task.method ≡ Prune) where
+    module _ (rows_right : RowsRight m task (xs ++ t ∷ [])) (pruned : task.method ≡ Prune) where
       abbrev guide : Option (Row K)
       guide = if t == task.source then None else row_of m task s t (s.firsts t)
 
       -- the first station on the way to t leads on
-      through_source : (t ≡ task.source) → (l : Link K) → Contains task.network.links l → l.from ≡ t → Through m task (first_through m task s t l.to) l.to (m.joined (s.row.costs t) l.cost)
+      through_source : (t ≡ task.source) → (l : Link K) → Contains task.network.links l → l.from ≡ t → Through m task (xs ++ t ∷ []) (first_through m task s t l.to) l.to (m.joined (s.row.costs t) l.cost)
       through_source e l laid from = record {
         link = l;
         is = rw (eq-eqb t task.source e) refl;
@@ -105,9 +107,14 @@ module _ {K : Type 0} {m : Kind K} (laws : Laws m) (strict : Strict m) (task : T
             let left = laws.zero_left l.cost in
             let right = laws.zero_right l.cost in
             omega arith;
+        known = inl refl;
       }
 
-      through_other : (t ≢ task.source) → (l : Link K) → Contains task.network.links l → l.from ≡ t → Through m task (first_through m task s t l.to) l.to (m.joined (s.row.costs t) l.cost)
+      -- a first station that was t or taken before has been taken by now
+      known_now : {u : ℕ} → (u ≡ t) ⊎ (1 ≤ times u xs) → 1 ≤ times u (xs ++ t ∷ [])
+      known_now {u} known = ⊎_elim (λ e. subst (λ (w : ℕ). 1 ≤ times w (xs ++ t ∷ [])) (sym e) (last_in_push xs t)) (in_push u xs t) known
+
+      through_other : (t ≢ task.source) → (l : Link K) → Contains task.network.links l → l.from ≡ t → Through m task (xs ++ t ∷ []) (first_through m task s t l.to) l.to (m.joined (s.row.costs t) l.cost)
       through_other ne l laid from =
           let by = labels.firsts pruned t ne t_below in
           record {
@@ -118,11 +125,12 @@ module _ {K : Type 0} {m : Kind K} (laws : Laws m) (strict : Strict m) (task : T
             cost = m.joined by.cost l.cost;
             walk = on (subst (λ (u : ℕ). Walk m task.network by.link.to u by.cost) (sym from) by.walk) laid;
             costs_that = sym (laws.join_associative by.link.cost by.cost l.cost) ∙ same_left laws (m.joined by.link.cost by.cost) (s.row.costs t) l.cost by.costs_that;
+            known = inr (known_now by.known);
           }
 
-      firsts_over : (o : Offer K) → Contains (prune m task s t) o → Through m task o.first o.station o.cost
+      firsts_over : (o : Offer K) → Contains (prune m task s t) o → Through m task (xs ++ t ∷ []) o.first o.station o.cost
       firsts_over =
-          each_over m s t task.network (first_through m task s t) (guided m task s t guide) (λ o. Through m task o.first o.station o.cost)
+          each_over m s t task.network (first_through m task s t) (guided m task s t guide) (λ o. Through m task (xs ++ t ∷ []) o.first o.station o.cost)
           (λ l laid from. ⊎_elim (λ e. through_source e l laid from) (λ ne. through_other ne l laid from) (cases_eq t task.source))
 
       -- and what is not tight in its row is not missed
@@ -136,16 +144,16 @@ module _ {K : Type 0} {m : Kind K} (laws : Laws m) (strict : Strict m) (task : T
           let by = labels.firsts pruned t ne t_below in
           let found : row_of m task s t (s.firsts t) ≡ Some row = rw (ne_eqb t task.source ne) at is in
           let worked : task.rows by.link.to ≡ Some row = rw by.is at found in
-          skipped by row (rows_right by.link.to row (between by.link by.laid).1 worked) l laid from loose)
+          skipped by row (rows_right by.link.to row (known_now by.known) worked) l laid from loose)
           (cases_eq t task.source)
 
-      pub fair_prune : Fair m task s t (prune m task s t)
+      pub fair_prune : Fair m task xs s t (prune m task s t)
       fair_prune = record {
-        given = λ o has below. given_over laws task s t walk (first_through m task s t) (guided m task s t guide) o has;
+        given = λ o has below. given_over laws task xs s t walk (first_through m task s t) (guided m task s t guide) o has;
         firsts = λ p o has below. firsts_over o has;
         covers = λ l laid from. ⊎_elim
-            (λ picked. inl (covers_over laws task s t walk (first_through m task s t) (guided m task s t guide) l laid from picked))
+            (λ picked. inl (covers_over laws task xs s t walk (first_through m task s t) (guided m task s t guide) l laid from picked))
             (λ loose. inr (skips l laid from guide refl loose))
             (cases_Bool (guided m task s t guide l));
-        goes_on = λ o has put. absurd (true≢false (sym (all_put laws task s t walk (first_through m task s t) (guided m task s t guide) o has) ∙ put));
+        goes_on = λ o has put. absurd (true≢false (sym (all_put laws task xs s t walk (first_through m task s t) (guided m task s t guide) o has) ∙ put));
       }

@@ -1,5 +1,5 @@
 -- What a station offers along its own row, if that is right, is fair.
-use Rattle.std.proofs.Common.{◌≡◌, ℕ, ◌<◌, inl, ⊎_elim, Option, Some, None, refl, ap, arith}
+use Rattle.std.proofs.Common.{◌≡◌, List, ℕ, ◌<◌, inl, ⊎_elim, Option, Some, None, refl, ap, arith}
 use Rattle.std.specs.List.{Contains}
 use Rattle.cost.specs.Kind.{Kind, Same, AtMost, Below}
 use Rattle.cost.specs.Laws.{Laws, ZeroLeast}
@@ -19,7 +19,7 @@ use Rattle.routes.proofs.RightRows.{at_zero, no_better}
 use Rattle.routes.proofs.Labels.{Preceded}
 use Rattle.routes.proofs.Steps.{OfferedTo, Fair}
 
-module _ {K : Type 0} {m : Kind K} (laws : Laws m) (zero_least : ZeroLeast m) (task : Task K) (between : Between task.network) (s : State K) (t : ℕ)
+module _ {K : Type 0} {m : Kind K} (laws : Laws m) (zero_least : ZeroLeast m) (task : Task K) (between : Between task.network) (xs : List ℕ) (s : State K) (t : ℕ)
     (walk : SomeWalk m task.network task.source t (s.row.costs t)) (t_there : t < task.network.stations) (row : Row K) (right : Right m task.network t row)
   where
     offered_along : (v : ℕ) (c : K) → v < task.network.stations → AtMost m (m.joined (s.row.costs t) (row.costs v)) c → OfferedTo m task (along_row m s t task.network.stations row) v c
@@ -61,7 +61,7 @@ module _ {K : Type 0} {m : Kind K} (laws : Laws m) (zero_least : ZeroLeast m) (t
         let same = laws.join_associative (s.row.costs t) (row.costs v) l.cost in
         offered_along l.to (m.joined (m.joined (s.row.costs t) (row.costs v)) l.cost) (between l laid).1 (omega arith)
 
-    pub fair_along : (task.method ≡ Prune → ⊥) → Fair m task s t (along_row m s t task.network.stations row)
+    pub fair_along : (task.method ≡ Prune → ⊥) → Fair m task xs s t (along_row m s t task.network.stations row)
     fair_along other = record {
       given = given_along;
       firsts = λ prune. absurd (other prune);

@@ -1,10 +1,11 @@
 -- What holds of the labels as long as a method runs, and what follows for walks that are cheaper than anything that waits.
-use Rattle.std.proofs.Common.{◌≡◌, ℕ, zero, suc, ◌<◌, ◌≤◌, true, false, ◌⊎◌, ⊎_elim, Option, Some, None, ap, subst, sym, arith, ◌≢◌}
+use Rattle.std.proofs.Common.{◌≡◌, List, ℕ, zero, suc, ◌<◌, ◌≤◌, true, false, ◌⊎◌, ⊎_elim, Option, Some, None, ap, subst, sym, arith, ◌≢◌}
 use Rattle.std.specs.List.{Contains}
 use Rattle.std.proofs.lemmas.Bool.{cases_eq, cases_lt, cases_Bool}
 use Rattle.cost.specs.Kind.{Kind, FAR, Same, AtMost, Below}
 use Rattle.cost.specs.Laws.{Laws, ZeroLeast}
 use Rattle.cost.specs.declared.link.Link.{Link}
+use Rattle.queue.specs.Drained.{times}
 use Rattle.queue.specs.Meaning.{Lowest}
 use Rattle.routes.specs.Walk.{Walk, stay, on, SomeWalk, LastBefore}
 use Rattle.routes.specs.Task.{Task}
@@ -30,8 +31,8 @@ module _ {K : Type 0} (m : Kind K) (task : Task K) where
     pub is : q ≡ Some station
     pub last : LastBefore m task.network task.source station v c
 
-  -- a link leads from the source to this first station, and on from there a walk to v; together they cost c
-  pub record Through (q : Option ℕ) (v : ℕ) (c : K) : Type 0 where
+  -- a link leads from the source to this first station, and on from there a walk to v; together they cost c. It is v or stands in xs
+  pub record Through (xs : List ℕ) (q : Option ℕ) (v : ℕ) (c : K) : Type 0 where
     pub link : Link K
     pub is : q ≡ Some link.to
     pub laid : Contains task.network.links link
@@ -39,19 +40,20 @@ module _ {K : Type 0} (m : Kind K) (task : Task K) where
     pub cost : K
     pub walk : Walk m task.network link.to v cost
     pub costs_that : Same m (m.joined link.cost cost) c
+    pub known : (link.to ≡ v) ⊎ (1 ≤ times link.to xs)
 
-  -- the source is at zero; any other station below FAR has been reached over its predecessor and, where that is kept, its first
+  -- after xs were taken, the source is at zero; any other station below FAR has been reached over its predecessor and, where that is kept, its first
   -- station; a station that does not wait has nothing better to offer, unless there is something better still
-  pub record Labels (s : State K) : Type 0 where
+  pub record Labels (xs : List ℕ) (s : State K) : Type 0 where
     pub source : s.row.costs task.source ≡ m.zero
     pub source_none : s.row.predecessors task.source ≡ None
     pub far_none : (v : ℕ) → Same m (s.row.costs v) m.far → s.row.predecessors v ≡ None
     pub given : (v : ℕ) → (v ≢ task.source) → Below m (s.row.costs v) m.far → Preceded (s.row.predecessors v) v (s.row.costs v)
-    pub firsts : task.method ≡ Prune → (v : ℕ) → (v ≢ task.source) → Below m (s.row.costs v) m.far → Through (s.firsts v) v (s.row.costs v)
+    pub firsts : task.method ≡ Prune → (v : ℕ) → (v ≢ task.source) → Below m (s.row.costs v) m.far → Through xs (s.firsts v) v (s.row.costs v)
     pub closed : (l : Link K) → Contains task.network.links l → waits s l.from ≡ false → Below m (s.row.costs l.from) m.far
         → Settled s l.to (m.joined (s.row.costs l.from) l.cost)
 
-  module _ (laws : Laws m) (zero_least : ZeroLeast m) {s : State K} (labels : Labels s) where
+  module _ (laws : Laws m) (zero_least : ZeroLeast m) {xs : List ℕ} {s : State K} (labels : Labels xs s) where
     -- every label below FAR is the cost of a walk
     pub walked : (v : ℕ) → Below m (s.row.costs v) m.far → SomeWalk m task.network task.source v (s.row.costs v)
     walked v below =

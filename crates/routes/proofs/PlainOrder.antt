@@ -89,7 +89,7 @@ module _ {K : Type 0} {m : Kind K} (laws : Laws m) (zero_least : ZeroLeast m) {t
 
   -- plain's row is right, and its predecessors lead along least routes
   pub plain_right : {xs : List ℕ} {s : State K} → Run m task xs s → Right m task.network task.source s.row
-  plain_right = right_at_end laws zero_least task workable (λ other. absurd (other is_plain)) (λ pruned. absurd (cc (is_plain, pruned)))
+  plain_right = right_at_end laws zero_least task workable (λ pruned. absurd (cc (is_plain, pruned))) (λ other. absurd (other is_plain))
 
   pub plain_reach : {xs : List ℕ} {s : State K} → Run m task xs s → {B : ℕ} → B < task.network.stations → Below m (s.row.costs B) m.far
       → (ys : List ℕ) × Chain s.row task.source B ys × Route m task.network task.source s.row B ys

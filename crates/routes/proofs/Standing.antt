@@ -27,6 +27,12 @@ pub record Standing {K : Type 0} (m : Kind K) (n : ℕ) (P : Type 0) (xs : List 
 pub times_push : (v : ℕ) (xs : List ℕ) (t : ℕ) → times v (xs ++ t ∷ []) ≡ times v xs + cond (t == v) 1 0
 times_push v xs t = sum_by_push (λ u. cond (u == v) 1 0) xs t
 
+pub in_push : (v : ℕ) (xs : List ℕ) (t : ℕ) → 1 ≤ times v xs → 1 ≤ times v (xs ++ t ∷ [])
+in_push v xs t on_it = let more = times_push v xs t in omega arith
+
+pub last_in_push : (xs : List ℕ) (t : ℕ) → 1 ≤ times t (xs ++ t ∷ [])
+last_in_push xs t = let more = times_push t xs t in grind (arith, nat_tests)
+
 module _ {K : Type 0} {m : Kind K} {n : ℕ} {P : Type 0} {xs : List ℕ} {s : State K} where
   -- a station of the lowest rank is taken
   pub standing_taking : {x t : ℕ} → Standing m n P xs x s → Lowest s.queue t → Standing m n P (xs ++ t ∷ []) (m.rank (s.row.costs t)) (taking s t)

@@ -1,5 +1,5 @@
 -- What holds of the labels still holds after a station was taken, and what it offers, if that is fair, was followed.
-use Rattle.std.proofs.Common.{◌≡◌, ℕ, false, ◌⊎◌, inl, inr, ⊎_elim, List, refl, ap, subst, sym, ◌∙◌, arith, ◌≢◌}
+use Rattle.std.proofs.Common.{◌≡◌, [], ◌∷◌, ◌++◌, Option, ℕ, false, ◌⊎◌, inl, inr, ⊎_elim, List, refl, ap, subst, sym, ◌∙◌, arith, ◌≢◌}
 use Rattle.std.specs.List.{Contains}
 use Rattle.std.proofs.lemmas.Bool.{cases_eq, true≢false}
 use Rattle.std.proofs.lemmas.Bool.Decides.{nat_tests}
@@ -13,6 +13,7 @@ use Rattle.routes.specs.Runs.{taking}
 use Rattle.routes.specs.declared.method.Method.TheVariants.{Prune}
 use Rattle.routes.proofs.Costs.{at_most_far}
 use Rattle.routes.proofs.Follows.{waits, waits_taking, Kept, Moved, Follows, falls}
+use Rattle.routes.proofs.Standing.{in_push}
 use Rattle.routes.proofs.Labels.{Cheaper, Settled, Preceded, Through, Labels}
 
 module _ {K : Type 0} (m : Kind K) (task : Task K) where
@@ -23,19 +24,19 @@ module _ {K : Type 0} (m : Kind K) (task : Task K) where
     pub here : offer.station ≡ v
     pub at_most : AtMost m offer.cost c
 
-  -- what the offers os of a station t have to be, in a state s
-  pub record Fair (s : State K) (t : ℕ) (os : List (Offer K)) : Type 0 where
+  -- what the offers os of a station t have to be, in a state s that taking xs has led to
+  pub record Fair (xs : List ℕ) (s : State K) (t : ℕ) (os : List (Offer K)) : Type 0 where
     -- each that is taken up is the cost of a walk, over its predecessor and through its first station
     pub given : (o : Offer K) → Contains os o → Below m o.cost (s.row.costs o.station) → Preceded m task o.predecessor o.station o.cost
-    pub firsts : task.method ≡ Prune → (o : Offer K) → Contains os o → Below m o.cost (s.row.costs o.station) → Through m task o.first o.station o.cost
+    pub firsts : task.method ≡ Prune → (o : Offer K) → Contains os o → Below m o.cost (s.row.costs o.station) → Through m task (xs ++ t ∷ []) o.first o.station o.cost
     -- no link from t is left out, unless a walk is cheaper
     pub covers : (l : Link K) → Contains task.network.links l → l.from ≡ t
         → OfferedTo os l.to (m.joined (s.row.costs t) l.cost) ⊎ ((Same m (m.joined (s.row.costs t) l.cost) m.far) ⊎ Cheaper m task l.to (m.joined (s.row.costs t) l.cost))
     -- nor a link from a station that is not put
     pub goes_on : (o : Offer K) → Contains os o → o.puts ≡ false → (l : Link K) → Contains task.network.links l → l.from ≡ o.station → OfferedTo os l.to (m.joined o.cost l.cost)
 
-  module _ (laws : Laws m) (zero_least : ZeroLeast m) {s : State K} (labels : Labels m task s) {t : ℕ}
-      {os : List (Offer K)} (fair : Fair s t os) {s' : State K} (f : Follows m (taking s t) os s')
+  module _ (laws : Laws m) (zero_least : ZeroLeast m) {xs : List ℕ} {s : State K} (labels : Labels m task xs s) {t : ℕ}
+      {os : List (Offer K)} (fair : Fair xs s t os) {s' : State K} (f : Follows m (taking s t) os s')
     where
       -- who waits once t was taken
       waits_other : (v : ℕ) → (v ≢ t) → waits (taking s t) v ≡ false → waits s v ≡ false
@@ -54,10 +55,22 @@ module _ {K : Type 0} (m : Kind K) (task : Task K) where
           let there = subst (λ (u : ℕ). Below m d.offer.cost (s.row.costs u) → Preceded m task d.offer.predecessor u d.offer.cost) d.here (fair.given d.offer d.made) in
           rw (d.predecessor, d.cost) (there d.lower)
 
-      firsts_moved : task.method ≡ Prune → (v : ℕ) → Moved m (taking s t) os v s' → Through m task (s'.firsts v) v (s'.row.costs v)
+      firsts_moved : task.method ≡ Prune → (v : ℕ) → Moved m (taking s t) os v s' → Through m task (xs ++ t ∷ []) (s'.firsts v) v (s'.row.costs v)
       firsts_moved prune v d =
-          let there = subst (λ (u : ℕ). Below m d.offer.cost (s.row.costs u) → Through m task d.offer.first u d.offer.cost) d.here (fair.firsts prune d.offer d.made) in
+          let there = subst (λ (u : ℕ). Below m d.offer.cost (s.row.costs u) → Through m task (xs ++ t ∷ []) d.offer.first u d.offer.cost) d.here (fair.firsts prune d.offer d.made) in
           rw (d.first, d.cost) (there d.lower)
+
+      through_longer : {q : Option ℕ} {v : ℕ} {c : K} → Through m task xs q v c → Through m task (xs ++ t ∷ []) q v c
+      through_longer by = record {
+        link = by.link;
+        is = by.is;
+        laid = by.laid;
+        leaves = by.leaves;
+        cost = by.cost;
+        walk = by.walk;
+        costs_that = by.costs_that;
+        known = ⊎_elim inl (λ on_it. inr (in_push by.link.to xs t on_it)) by.known;
+      }
 
       near_moved : (v : ℕ) → Moved m (taking s t) os v s' → Below m (s'.row.costs v) m.far
       near_moved v d =
@@ -101,7 +114,7 @@ module _ {K : Type 0} (m : Kind K) (task : Task K) where
           (λ not_put. inl (rw (sym same, d.cost) (settled_by l (m.joined d.offer.cost l.cost) (fair.goes_on d.offer d.made not_put.0 l laid (sym d.here)))))
           d.waiting
 
-      pub labels_followed : Labels m task s'
+      pub labels_followed : Labels m task (xs ++ t ∷ []) s'
       labels_followed = record {
         source = ⊎_elim (λ k. k.cost ∙ labels.source) (λ d. absurd (not_source task.source d refl)) (f.fate task.source);
         source_none = ⊎_elim (λ k. k.predecessor ∙ labels.source_none) (λ d. absurd (not_source task.source d refl)) (f.fate task.source);
@@ -114,7 +127,7 @@ module _ {K : Type 0} (m : Kind K) (task : Task K) where
             (given_moved v)
             (f.fate v);
         firsts = λ prune v ne below. ⊎_elim
-            (λ k. rw (k.first, k.cost) (labels.firsts prune v ne (let e = ap m.rank k.cost in omega arith)))
+            (λ k. rw (k.first, k.cost) (through_longer (labels.firsts prune v ne (let e = ap m.rank k.cost in omega arith))))
             (firsts_moved prune v)
             (f.fate v);
         closed = λ l laid rests below. ⊎_elim

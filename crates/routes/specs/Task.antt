@@ -1,10 +1,11 @@
 -- What a row is worked from.
 --
---   Task K              the network, the rows that are worked already, the source and the method
---   Workable task       the source is a station, and the links run between stations
---   RowsRight m task    the rows that are worked already are right
-use Rattle.std.specs.Prelude.{◌≡◌, ℕ, ◌<◌, ◌≤◌, Option, Some}
+--   Task K                 the network, the rows that are worked already, the source and the method
+--   Workable task          the source is a station, and the links run between stations
+--   RowsRight m task xs    of the stations xs those rows that are worked already are right
+use Rattle.std.specs.Prelude.{◌≡◌, ℕ, ◌<◌, ◌≤◌, List, Option, Some}
 use Rattle.cost.specs.Kind.{Kind}
+use Rattle.queue.specs.Drained.{times}
 use Rattle.routes.specs.Network.{Network, Between}
 use Rattle.routes.specs.Row.{Row, Right}
 use Rattle.routes.specs.declared.method.Method.{Method}
@@ -19,5 +20,5 @@ pub record Workable {K : Type 0} (task : Task K) : Type 0 where
   pub source_there : task.source < task.network.stations
   pub between : Between task.network
 
-abbrev pub RowsRight : {K : Type 0} → Kind K → Task K → Type 0
-RowsRight {K} m task = (t : ℕ) (row : Row K) → t < task.network.stations → task.rows t ≡ Some row → Right m task.network t row
+abbrev pub RowsRight : {K : Type 0} → Kind K → Task K → List ℕ → Type 0
+RowsRight {K} m task xs = (t : ℕ) (row : Row K) → 1 ≤ times t xs → task.rows t ≡ Some row → Right m task.network t row

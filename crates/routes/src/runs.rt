@@ -27,10 +27,11 @@ pub fn runs_count<K>()
     ensures all { (m : Kind K) → Laws m → ZeroLeast m → (task : Task K) (xs : List ℕ) (s : State K) → Workable task → task.network.stations ≤ most_stations → (task.method ≢ Reuse) → Run m task xs s → s.queue.taken ≡ below_far m task.network.stations s.row }
 {}
 
-// Every run of every method ends in a right row, if the rows that are worked are right. Only prune uses the strict laws.
+// Every run of every method ends in a right row, if of the stations that it takes those rows that are worked are right: it reads no others. Only
+// prune uses the strict laws.
 #[tactic(auto, using(crate::proofs::Ends::right_from_rows))]
 pub fn runs_end_right<K>()
-    ensures right { (m : Kind K) → Laws m → ZeroLeast m → (task : Task K) (xs : List ℕ) (s : State K) → Workable task → RowsRight m task → (task.method ≡ Prune → Strict m) → Run m task xs s → Right m task.network task.source s.row }
+    ensures right { (m : Kind K) → Laws m → ZeroLeast m → (task : Task K) (xs : List ℕ) (s : State K) → Workable task → RowsRight m task xs → (task.method ≡ Prune → Strict m) → Run m task xs s → Right m task.network task.source s.row }
 {}
 
 // Plain needs neither worked rows nor the strict laws: it ends in a right row, in which a chain of predecessors leads from the source to each station
