@@ -63,15 +63,16 @@ module _ {K : Type 0} {row : Row K} {A : ℕ} where
       (rest.0, rest.1, omega (arith, rest.2, length_push xs B)))
       (cases_eq B s)
 
-  -- where the source has no predecessor, all chains of a station are equally long
+  -- where the source has no predecessor, a station has one chain
   module _ (none : row.predecessors A ≡ None) where
-    same_length : {B C : ℕ} {xs ys : List ℕ} → B ≡ C → Chain row A B xs → Chain row A C ys → length xs ≡ length ys
-    same_length e begin begin = refl
-    same_length e begin (after chain is) = absurd (cc (none, ap row.predecessors e, is))
-    same_length e (after chain is) begin = absurd (cc (none, ap row.predecessors e, is))
-    same_length e (after {p = p} {B = B} {xs = xs} chain is) (after {p = q} {B = C} {xs = ys} other is_other) =
+    pub one_chain : {B C : ℕ} {xs ys : List ℕ} → B ≡ C → Chain row A B xs → Chain row A C ys → xs ≡ ys
+    one_chain e begin begin = refl
+    one_chain e begin (after chain is) = absurd (cc (none, ap row.predecessors e, is))
+    one_chain e (after chain is) begin = absurd (cc (none, ap row.predecessors e, is))
+    one_chain e (after {p = p} {B = B} {xs = xs} chain is) (after {p = q} {B = C} {xs = ys} other is_other) =
         let same : p ≡ q = cc (is, is_other, ap row.predecessors e) in
-        omega (arith, same_length same chain other, length_push xs B, length_push ys C)
+        let before = one_chain same chain other in
+        λ i. before i ++ e i ∷ []
 
     -- so none stands on a chain twice
     once : {B : ℕ} {xs : List ℕ} → Chain row A B xs → (s : ℕ) → times s xs ≤ 1
@@ -82,7 +83,7 @@ module _ {K : Type 0} {row : Row K} {A : ℕ} where
         let none_before : B ≡ s → 1 ≤ times s xs → ⊥ =
         λ same on_it.
         let by = part chain s on_it in
-        omega (arith, by.2, length_push xs B, same_length same (after chain is) by.1) in
+        omega (arith, by.2, length_push xs B, ap length (one_chain same (after chain is) by.1)) in
         grind (arith, nat_tests, cases_eq B s)
 
 module _ {K : Type 0} {m : Kind K} (laws : Laws m) {net : Network K} {A : ℕ} {row : Row K} (source : A < net.stations) (linked : Linked m net A row) where

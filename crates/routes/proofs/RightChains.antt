@@ -2,7 +2,7 @@
 use Rattle.std.proofs.Common.{◌≡◌, ℕ, ◌<◌, List, inl, inr, ⊎_elim, Some, refl, arith}
 use Rattle.cost.specs.Kind.{Kind, Same, Below}
 use Rattle.cost.specs.Laws.{Laws, Strict, ZeroLeast}
-use Rattle.routes.proofs.Chains.{TightLink, Linked, route, reach}
+use Rattle.routes.proofs.Chains.{TightLink, Linked, one_chain, route, reach}
 use Rattle.routes.proofs.Checked.{given_or_missing, joins_from_below, tight_last}
 use Rattle.routes.proofs.Costs.{zero_least_from_strict}
 use Rattle.routes.proofs.JoinedWalks.{link_of_last, last_ends}
@@ -41,6 +41,10 @@ module _ {K : Type 0} {m : Kind K} (laws : Laws m) (zero_least : ZeroLeast m) {n
       → {B : ℕ} → B < net.stations → Below m (row.costs B) m.far → (xs : List ℕ) × Chain row A B xs × Route m net A row B xs
   right_reach = reach laws source linked
 
+-- a station has one chain
+pub right_one : {K : Type 0} {m : Kind K} {net : Network K} {A B : ℕ} {row : Row K} {xs ys : List ℕ} → A < net.stations → Right m net A row → Chain row A B xs → Chain row A B ys → xs ≡ ys
+right_one {A = A} source right = one_chain ((right.missing A source).1 (inl refl)) refl
+
 -- as costs do, if no link is free
 pub strict_reach : {K : Type 0} {m : Kind K} {net : Network K} {A B : ℕ} {row : Row K} → Laws m → Strict m → Between net → NoneFree m net → A < net.stations → B < net.stations
     → Right m net A row → Below m (row.costs B) m.far → (xs : List ℕ) × Chain row A B xs × Route m net A row B xs
@@ -54,4 +58,4 @@ strict_reach {m = m} {row = row} laws strict between none_free source within rig
     within
 
 -- what the contract wants
-pub ruleset by_right = (right_route, strict_reach)
+pub ruleset by_right = (right_route, right_one, strict_reach)

@@ -1,5 +1,5 @@
 // Theorems about rows.
-ghost use Rattle.std.specs.Prelude.{ℕ, ◌<◌, List};
+ghost use Rattle.std.specs.Prelude.{◌≡◌, ℕ, ◌<◌, List};
 ghost use Rattle.cost.specs.Kind.{Kind, Below};
 ghost use Rattle.cost.specs.Laws.{Laws, Strict, ZeroLeast};
 ghost use Rattle.routes.specs.Network.{Network, Between, OnePerPair, NoneFree};
@@ -14,10 +14,11 @@ pub fn right_rows_pass<K>()
     ensures right { (m : Kind K) → Laws m → Strict m → (net : Network K) (A : ℕ) (row : Row K) → Between net → NoneFree m net → A < net.stations → NoneFails m net A row → Right m net A row }
 {}
 
-// In a right row each chain of predecessors from the source is a walk of just the cost that the row says, past no station twice. By the strict laws, one
-// leads to each station below FAR where no link costs zero.
+// In a right row each chain of predecessors from the source is a walk of just the cost that the row says, past no station twice, and a station has one at
+// most. By the strict laws, each below FAR has one where no link costs zero.
 #[tactic(auto, using(crate::proofs::RightChains::by_right))]
 pub fn chains_are_routes<K>()
     ensures route { (m : Kind K) → Laws m → ZeroLeast m → (net : Network K) (A B : ℕ) (row : Row K) (xs : List ℕ) → Between net → A < net.stations → B < net.stations → Right m net A row → Chain row A B xs → Route m net A row B xs }
+    ensures one { (m : Kind K) (net : Network K) (A B : ℕ) (row : Row K) (xs ys : List ℕ) → A < net.stations → Right m net A row → Chain row A B xs → Chain row A B ys → xs ≡ ys }
     ensures reach { (m : Kind K) → Laws m → Strict m → (net : Network K) (A B : ℕ) (row : Row K) → Between net → NoneFree m net → A < net.stations → B < net.stations → Right m net A row → Below m (row.costs B) m.far → (xs : List ℕ) × Chain row A B xs × Route m net A row B xs }
 {}
