@@ -9,3 +9,4 @@ pub mod State
 pub mod Offers
 pub mod Methods
 pub mod Runs
+pub mod Worked
