@@ -40,7 +40,7 @@ module _ {K : Type 0} {m : Kind K} (laws : Laws m) (zero_least : ZeroLeast m) (t
     pub labels_reached : {xs : List ℕ} {s : State K} → Reached m task xs s → ((task.method ≢ Plain) → RowsRight m task xs) → Labels m task xs s
     labels_reached start rows_right = begun_labels
     labels_reached (next {xs = xs} {s = s} {t = t} reached lowest) rows_right =
-        let labels = labels_reached reached (λ other u row on_it is. rows_right other u row (in_push u xs t on_it) is) in
+        let labels = labels_reached reached (λ other. record { right = λ u row on_it is. (rows_right other).right u row (in_push u xs t on_it) is }) in
         labels_followed m task laws zero_least labels
         (fair_offers laws zero_least workable labels (reached_standing laws zero_least workable reached).1 lowest rows_right strict)
         (follows_all m (offers m task s t) (taking s t))

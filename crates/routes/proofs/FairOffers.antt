@@ -31,7 +31,7 @@ module _ {K : Type 0} {m : Kind K} (laws : Laws m) (zero_least : ZeroLeast m) {t
 
     fair_reuse : RowsRight m task (xs ++ t ∷ []) → (task.method ≡ Prune → ⊥) → (q : Option (Row K)) → task.rows t ≡ q → Fair m task xs s t (reuse m task s t q)
     fair_reuse rows_right other None is = fair_plain laws task xs s t walk other
-    fair_reuse rows_right other (Some row) is = fair_along laws zero_least task workable.between xs s t walk t_there row (rows_right t row (last_in_push xs t) is) other
+    fair_reuse rows_right other (Some row) is = fair_along laws zero_least task workable.between xs s t walk t_there row (rows_right.right t row (last_in_push xs t) is) other
 
     -- worked rows are read but by plain, and a strict law is used by prune alone
     fair_by : ((task.method ≢ Plain) → RowsRight m task (xs ++ t ∷ [])) → (task.method ≡ Prune → Strict m) → (method : Method) → task.method ≡ method → Fair m task xs s t (by_method m task s t method)

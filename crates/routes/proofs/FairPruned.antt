@@ -144,7 +144,7 @@ module _ {K : Type 0} {m : Kind K} (laws : Laws m) (strict : Strict m) (task : T
           let by = labels.firsts pruned t ne t_below in
           let found : row_of m task s t (s.firsts t) ≡ Some row = rw (ne_eqb t task.source ne) at is in
           let worked : task.rows by.link.to ≡ Some row = rw by.is at found in
-          skipped by row (rows_right by.link.to row (known_now by.known) worked) l laid from loose)
+          skipped by row (rows_right.right by.link.to row (known_now by.known) worked) l laid from loose)
           (cases_eq t task.source)
 
       pub fair_prune : Fair m task xs s t (prune m task s t)

@@ -22,3 +22,4 @@ pub mod FairPruned
 pub mod FairOffers
 pub mod Ends
 pub mod PlainOrder
+pub mod WorkedRuns

@@ -20,5 +20,5 @@ pub record Workable {K : Type 0} (task : Task K) : Type 0 where
   pub source_there : task.source < task.network.stations
   pub between : Between task.network
 
-abbrev pub RowsRight : {K : Type 0} → Kind K → Task K → List ℕ → Type 0
-RowsRight {K} m task xs = (t : ℕ) (row : Row K) → 1 ≤ times t xs → task.rows t ≡ Some row → Right m task.network t row
+pub record RowsRight {K : Type 0} (m : Kind K) (task : Task K) (xs : List ℕ) : Type 0 where
+  pub right : (t : ℕ) (row : Row K) → 1 ≤ times t xs → task.rows t ≡ Some row → Right m task.network t row
