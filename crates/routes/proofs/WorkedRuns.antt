@@ -1,5 +1,5 @@
 -- The worked stations are what the theorems speak of: their links are laid soundly, row 2 is right, and the steps are those of whole runs.
-use Rattle.std.proofs.Common.{◌≡◌, ◌≢◌, ℕ, zero, suc, ◌<◌, Bool, true, false, not, ◌&&◌, ◌||◌, ◌==◌, nat_lt, ⊎_elim, List, [], ◌∷◌, Some, refl, ap, subst, sym, ◌∙◌, arith, rules}
+use Rattle.std.proofs.Common.{◌≡◌, ◌≢◌, ℕ, zero, suc, ◌<◌, ◌≤◌, Bool, true, false, not, ◌&&◌, ◌||◌, ◌==◌, nat_lt, ⊎_elim, List, [], ◌∷◌, ◌++◌, Some, refl, ap, subst, sym, ◌∙◌, arith, rules}
 use Rattle.std.specs.List.{Contains, list_all}
 use Rattle.std.proofs.lemmas.Bool.{cases_eq}
 use Rattle.std.proofs.lemmas.Bool.Decides.{nat_tests}
@@ -12,8 +12,9 @@ use Rattle.cost.specs.declared.sum.Sum.{Sum}
 use Rattle.routes.specs.Network.{Between, OnePerPair, NoneFree}
 use Rattle.routes.specs.Row.{Row, Right}
 use Rattle.routes.specs.Fails.{fails}
-use Rattle.routes.specs.Task.{Workable, RowsRight}
-use Rattle.routes.specs.Runs.{Run, start, next}
+use Rattle.routes.specs.Task.{Task, Workable, RowsRight}
+use Rattle.routes.specs.State.{State}
+use Rattle.routes.specs.Runs.{followed, Reached, Run, start, next}
 use Rattle.routes.specs.Worked.{five, row_of_two, worked, after}
 use Rattle.routes.specs.declared.method.Method.{Method}
 use Rattle.routes.specs.declared.method.Method.TheVariants.{Plain, Reuse, Prune}
@@ -81,35 +82,29 @@ tasks_sound method = record { source_there = omega arith; between = five_between
 pub rows_sound : (method : Method) (xs : List ℕ) → RowsRight sum_kind (worked method) xs
 rows_sound method xs = record { right = λ t row on_it is. worked_right method t row is }
 
+-- a station that waits, at a rank that nobody waits below, is taken
+take_on : {task : Task Sum} {xs : List ℕ} {s : State Sum} (t x : ℕ) → Reached sum_kind task xs s → s.queue.ranks t ≡ Some x → ((u y : ℕ) → s.queue.ranks u ≡ Some y → x ≤ y)
+    → Reached sum_kind task (xs ++ t ∷ []) (followed sum_kind task s t)
+take_on t x reached waits least = next reached (record { rank = x; waits = waits; least = least })
+
 -- a whole run of each method
 pub plain_run : Run sum_kind (worked Plain) (0 ∷ 2 ∷ 1 ∷ 3 ∷ []) (after Plain (0 ∷ 2 ∷ 1 ∷ 3 ∷ []))
-plain_run = record {
-  reached = next (next (next (next start
-      (record { rank = 0; waits = refl; least = λ t x w. omega arith }))
-      (record { rank = 1; waits = refl; least = λ t x w. grind (arith, nat_tests) }))
-      (record { rank = 3; waits = refl; least = λ t x w. grind (arith, nat_tests) }))
-      (record { rank = 8; waits = refl; least = λ t x w. grind (arith, nat_tests) });
-  over = λ t. grind (arith, nat_tests);
-}
+plain_run =
+    let two : Reached sum_kind (worked Plain) (0 ∷ 2 ∷ []) (after Plain (0 ∷ 2 ∷ [])) = take_on 2 1 (take_on 0 0 start refl (λ u y w. omega arith)) refl (λ u y w. grind (arith, nat_tests)) in
+    let three : Reached sum_kind (worked Plain) (0 ∷ 2 ∷ 1 ∷ []) (after Plain (0 ∷ 2 ∷ 1 ∷ [])) = take_on 1 3 two refl (λ u y w. grind (arith, nat_tests)) in
+    record { reached = take_on 3 8 three refl (λ u y w. grind (arith, nat_tests)); over = λ u. grind (arith, nat_tests) }
 
 pub reuse_run : Run sum_kind (worked Reuse) (0 ∷ 2 ∷ 1 ∷ []) (after Reuse (0 ∷ 2 ∷ 1 ∷ []))
-reuse_run = record {
-  reached = next (next (next start
-      (record { rank = 0; waits = refl; least = λ t x w. omega arith }))
-      (record { rank = 1; waits = refl; least = λ t x w. grind (arith, nat_tests) }))
-      (record { rank = 3; waits = refl; least = λ t x w. grind (arith, nat_tests) });
-  over = λ t. grind (arith, nat_tests);
-}
+reuse_run =
+    let two : Reached sum_kind (worked Reuse) (0 ∷ 2 ∷ []) (after Reuse (0 ∷ 2 ∷ [])) = take_on 2 1 (take_on 0 0 start refl (λ u y w. omega arith)) refl (λ u y w. grind (arith, nat_tests)) in
+    let three : Reached sum_kind (worked Reuse) (0 ∷ 2 ∷ 1 ∷ []) (after Reuse (0 ∷ 2 ∷ 1 ∷ [])) = take_on 1 3 two refl (λ u y w. grind (arith, nat_tests)) in
+    record { reached = three; over = λ u. grind (arith, nat_tests) }
 
 pub prune_run : Run sum_kind (worked Prune) (0 ∷ 2 ∷ 1 ∷ 3 ∷ []) (after Prune (0 ∷ 2 ∷ 1 ∷ 3 ∷ []))
-prune_run = record {
-  reached = next (next (next (next start
-      (record { rank = 0; waits = refl; least = λ t x w. omega arith }))
-      (record { rank = 1; waits = refl; least = λ t x w. grind (arith, nat_tests) }))
-      (record { rank = 3; waits = refl; least = λ t x w. grind (arith, nat_tests) }))
-      (record { rank = 8; waits = refl; least = λ t x w. grind (arith, nat_tests) });
-  over = λ t. grind (arith, nat_tests);
-}
+prune_run =
+    let two : Reached sum_kind (worked Prune) (0 ∷ 2 ∷ []) (after Prune (0 ∷ 2 ∷ [])) = take_on 2 1 (take_on 0 0 start refl (λ u y w. omega arith)) refl (λ u y w. grind (arith, nat_tests)) in
+    let three : Reached sum_kind (worked Prune) (0 ∷ 2 ∷ 1 ∷ []) (after Prune (0 ∷ 2 ∷ 1 ∷ [])) = take_on 1 3 two refl (λ u y w. grind (arith, nat_tests)) in
+    record { reached = take_on 3 8 three refl (λ u y w. grind (arith, nat_tests)); over = λ u. grind (arith, nat_tests) }
 
 -- what the contract wants
 pub ruleset worked_out = (links_sound, tasks_sound, rows_sound, plain_run, reuse_run, prune_run)
