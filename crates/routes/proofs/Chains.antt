@@ -1,4 +1,4 @@
--- Predecessors from which tight links lead are the stations of least routes.
+-- Predecessors from which tight links lead make routes.
 use Rattle.std.proofs.Common.{◌≡◌, ℕ, zero, suc, ◌+◌, ◌<◌, ◌≤◌, List, [], ◌∷◌, ◌++◌, ◌==◌, ⊎_elim, None, Some, cond, length, nat_lt, refl, subst, sym, ap, ◌∙◌, arith}
 use Rattle.std.proofs.lemmas.Bool.{cases_eq, cases_lt}
 use Rattle.std.proofs.lemmas.Bool.Decides.{nat_tests}
@@ -115,7 +115,7 @@ module _ {K : Type 0} {m : Kind K} (laws : Laws m) {net : Network K} {A : ℕ} {
       let one_more = sum_by_push (λ x. cond (x == s) 1 0) xs B in
       grind (arith, nat_tests)
 
-  -- it is a least route
+  -- it is a route
   pub route : {B : ℕ} {xs : List ℕ} → B < net.stations → Chain row A B xs → Route m net A row B xs
   route {B} {xs} within chain =
       let walk = walked within chain in

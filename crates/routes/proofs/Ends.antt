@@ -22,7 +22,7 @@ use Rattle.routes.proofs.FairOffers.{fair_offers}
 
 module _ {K : Type 0} {m : Kind K} (laws : Laws m) (zero_least : ZeroLeast m) (task : Task K) where
   -- at the start
-  pub begun_far : (v : ℕ) → (v ≢ task.source) → m.rank ((begun m task).row.costs v) ≡ FAR
+  begun_far : (v : ℕ) → (v ≢ task.source) → m.rank ((begun m task).row.costs v) ≡ FAR
   begun_far v ne = let f = laws.far_rank in grind (arith, nat_tests)
 
   begun_labels : Labels m task [] (begun m task)
@@ -50,6 +50,7 @@ module _ {K : Type 0} {m : Kind K} (laws : Laws m) (zero_least : ZeroLeast m) (t
       least_label : (v : ℕ) (c : K) → Walk m task.network task.source v c → AtMost m (s.row.costs v) c
       least_label v c walk = cheaper_walks_known m task laws zero_least labels (suc (m.rank c)) (λ u w. absurd (true≢false (sym w ∙ ap is_some (over u)))) v c walk (omega arith)
 
+      -- a predecessor is missing or given as a right row has it
       near_far : (v : ℕ) → (Same m (s.row.costs v) m.far → ⊥) → Below m (s.row.costs v) m.far
       near_far v near = let most = at_most_far laws (s.row.costs v) in omega arith
 

@@ -35,7 +35,7 @@ module _ {K : Type 0} {m : Kind K} (laws : Laws m) (strict : Strict m) (task : T
         to_first : SomeWalk m task.network task.source by.link.to by.link.cost
         to_first = costs_same (costs_from_last (goes_on_to laws by.link (walk_costs stay) by.laid by.leaves refl)) (laws.zero_left by.link.cost)
 
-        -- w's cost of t, and of where the link ends
+        -- w's cost of t is below FAR
         row_near : Same m (row.costs t) m.far → ⊥
         row_near far =
             let le = (right.least t t_there).none_less by.walk in
@@ -44,6 +44,7 @@ module _ {K : Type 0} {m : Kind K} (laws : Laws m) (strict : Strict m) (task : T
             let same = by.costs_that in
             omega arith
 
+        -- t's label is final, so it is the link to w joined with w's cost of t
         same_label : Same m (s.row.costs t) (m.joined by.link.cost (row.costs t))
         same_label =
             let to_t = along laws to_first ((right.least t t_there).one_costs_it row_near) in
@@ -53,9 +54,11 @@ module _ {K : Type 0} {m : Kind K} (laws : Laws m) (strict : Strict m) (task : T
             let same = by.costs_that in
             omega arith
 
+        -- and what t offers over the link is that of w with the link to w in front
         same_offer : Same m (m.joined (s.row.costs t) l.cost) (m.joined by.link.cost (m.joined (row.costs t) l.cost))
         same_offer = same_left laws (s.row.costs t) (m.joined by.link.cost (row.costs t)) l.cost same_label ∙ laws.join_associative by.link.cost (row.costs t) l.cost
 
+        -- w's cost of where the link ends is less, if it is not FAR
         better : AtMost m (row.costs l.to) (m.joined (row.costs t) l.cost)
         better = rw from at (no_better laws between right l laid)
 
@@ -65,6 +68,7 @@ module _ {K : Type 0} {m : Kind K} (laws : Laws m) (strict : Strict m) (task : T
             let test = rw from at loose in
             grind (arith, nat_tests)
 
+        -- so the walk over w is cheaper than the offer, if that is not FAR
         skipped : Same m (m.joined (s.row.costs t) l.cost) m.far ⊎ Cheaper m task l.to (m.joined (s.row.costs t) l.cost)
         skipped =
             let same = same_offer in

@@ -46,7 +46,7 @@ ranks_if true p q v = refl
 ranks_if false p q v = refl
 
 module _ {K : Type 0} (m : Kind K) where
-  -- an offer that is taken up
+  -- an offer that is accepted
   module _ (s : State K) (o : Offer K) (below : Below m o.cost (s.row.costs o.station)) where
     ranks_after : (v : ℕ) → (accepted m s o).queue.ranks v ≡ (if o.puts || waits s o.station then (after_put s.queue o.station (m.rank o.cost)).ranks v else s.queue.ranks v)
     ranks_after v = ranks_if (o.puts || waits s o.station) (after_put s.queue o.station (m.rank o.cost)) s.queue v
@@ -101,7 +101,7 @@ module _ {K : Type 0} (m : Kind K) where
         (λ (ne : v ≡ o.station → ⊥). ranked_others ranked v x ne w)
         (cases_eq v o.station)
 
-  -- what is said of states and holds whether or not an offer is taken up
+  -- what is said of states and holds whether or not an offer is accepted
   by_offer : (s : State K) (o : Offer K) (P : State K → Type 0) → (Below m o.cost (s.row.costs o.station) → P (accepted m s o)) → (AtMost m (s.row.costs o.station) o.cost → P s) → P (offered m s o)
   by_offer s o P up not_up =
       ⊎_elim

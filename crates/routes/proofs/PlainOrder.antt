@@ -87,7 +87,7 @@ module _ {K : Type 0} {m : Kind K} (laws : Laws m) (zero_least : ZeroLeast m) {t
       (λ d. earlier_moved reached lowest v p is (subst (λ (method : Method). Moved m (taking s t) (by_method m task s t method) v (followed m task s t)) is_plain d))
       ((follows_all m (offers m task s t) (taking s t)).fate v)
 
-  -- plain's row is right, and its predecessors lead along least routes
+  -- plain's row is right, and its predecessors lead to each station below FAR
   pub plain_right : {xs : List ℕ} {s : State K} → Run m task xs s → Right m task.network task.source s.row
   plain_right = right_at_end laws zero_least task workable (λ pruned. absurd (cc (is_plain, pruned))) (λ other. absurd (other is_plain))
 

@@ -32,7 +32,7 @@ module _ {K : Type 0} {m : Kind K} (laws : Laws m) (zero_least : ZeroLeast m) {n
             (given_or_missing (row.predecessors v));
       }
 
-  -- so they lead along least routes alone
+  -- so their chains are routes
   pub right_route : {B : ℕ} {xs : List ℕ} → B < net.stations → Chain row A B xs → Route m net A row B xs
   right_route = route laws source linked
 

@@ -26,7 +26,7 @@ module _ {K : Type 0} (m : Kind K) (task : Task K) where
 
   -- what the offers os of a station t have to be, in a state s that taking xs has led to
   pub record Fair (xs : List ℕ) (s : State K) (t : ℕ) (os : List (Offer K)) : Type 0 where
-    -- each that is taken up is the cost of a walk, over its predecessor and through its first station
+    -- each that is accepted is the cost of a walk, over its predecessor and through its first station
     pub given : (o : Offer K) → Contains os o → Below m o.cost (s.row.costs o.station) → Preceded m task o.predecessor o.station o.cost
     pub firsts : task.method ≡ Prune → (o : Offer K) → Contains os o → Below m o.cost (s.row.costs o.station) → Through m task (xs ++ t ∷ []) o.first o.station o.cost
     -- no link from t is left out, unless a walk is cheaper
@@ -60,6 +60,7 @@ module _ {K : Type 0} (m : Kind K) (task : Task K) where
           let there = subst (λ (u : ℕ). Below m d.offer.cost (s.row.costs u) → Through m task (xs ++ t ∷ []) d.offer.first u d.offer.cost) d.here (fair.firsts prune d.offer d.made) in
           rw (d.first, d.cost) (there d.lower)
 
+      -- what was taken before was taken by now
       through_longer : {q : Option ℕ} {v : ℕ} {c : K} → Through m task xs q v c → Through m task (xs ++ t ∷ []) q v c
       through_longer by = record {
         link = by.link;
