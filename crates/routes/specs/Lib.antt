@@ -9,4 +9,5 @@ pub mod State
 pub mod Offers
 pub mod Methods
 pub mod Runs
+pub mod Six
 pub mod Worked
