@@ -1,4 +1,4 @@
--- Predecessors from which tight links lead make routes.
+-- Predecessors from which fitting links lead make routes.
 use Rattle.std.proofs.Common.{◌≡◌, ℕ, zero, suc, ◌+◌, ◌<◌, ◌≤◌, List, [], ◌∷◌, ◌++◌, ◌==◌, ⊎_elim, None, Some, cond, length, nat_lt, refl, subst, sym, ap, ◌∙◌, arith}
 use Rattle.std.proofs.lemmas.Bool.{cases_eq, cases_lt}
 use Rattle.std.proofs.lemmas.Bool.Decides.{nat_tests}
@@ -17,20 +17,20 @@ use Rattle.routes.specs.Row.{Row}
 use Rattle.routes.specs.Walk.{Walk, stay, on, stations_of}
 
 -- a link leads from station p to v, on which p's cost becomes v's
-pub record TightLink {K : Type 0} (m : Kind K) (net : Network K) (row : Row K) (p v : ℕ) : Type 0 where
+pub record FittingLink {K : Type 0} (m : Kind K) (net : Network K) (row : Row K) (p v : ℕ) : Type 0 where
   pub station : p < net.stations
   pub link : Link K
   pub laid : Contains net.links link
   pub starts : link.from ≡ p
   pub ends : link.to ≡ v
-  pub tight : Same m (m.joined (row.costs p) link.cost) (row.costs v)
+  pub fits : Same m (m.joined (row.costs p) link.cost) (row.costs v)
 
--- the source costs zero and has no predecessor, a tight link leads to each station from the predecessor that it has, and each below FAR but
+-- the source costs zero and has no predecessor, a fitting link leads to each station from the predecessor that it has, and each below FAR but
 -- the source has one
 pub record Linked {K : Type 0} (m : Kind K) (net : Network K) (A : ℕ) (row : Row K) : Type 0 where
   pub zero_at_source : Same m (row.costs A) m.zero
   pub none_at_source : row.predecessors A ≡ None
-  pub by_link : (v p : ℕ) → v < net.stations → row.predecessors v ≡ Some p → TightLink m net row p v
+  pub by_link : (v p : ℕ) → v < net.stations → row.predecessors v ≡ Some p → FittingLink m net row p v
   pub some : (v : ℕ) → v < net.stations → (v ≡ A → ⊥) → Below m (row.costs v) m.far → (p : ℕ) × (row.predecessors v ≡ Some p)
 
 -- numbers that stand in a list at most once, all below n, are at most n
@@ -90,11 +90,11 @@ module _ {K : Type 0} {m : Kind K} (laws : Laws m) {net : Network K} {A : ℕ} {
   -- a chain is a walk
   walked_on : {xs : List ℕ} (l : Link K) → Walked m net A row l.from xs → Contains net.links l → Same m (m.joined (row.costs l.from) l.cost) (row.costs l.to)
       → Walked m net A row l.to (xs ++ l.to ∷ [])
-  walked_on l so_far laid tight =
+  walked_on l so_far laid fits =
       record {
         cost = m.joined so_far.cost l.cost;
         walk = on so_far.walk laid;
-        costs_that = same_left laws so_far.cost (row.costs l.from) l.cost so_far.costs_that ∙ tight;
+        costs_that = same_left laws so_far.cost (row.costs l.from) l.cost so_far.costs_that ∙ fits;
         passes = ap (λ (z : List ℕ). z ++ l.to ∷ []) so_far.passes;
       }
 
@@ -103,9 +103,9 @@ module _ {K : Type 0} {m : Kind K} (laws : Laws m) {net : Network K} {A : ℕ} {
   walked {B} within (after {p = p} {xs = xs} chain is) =
       let f = linked.by_link B p within is in
       let before = subst (λ (z : ℕ). Walked m net A row z xs) (sym f.starts) (walked f.station chain) in
-      let tight_from = subst (λ (z : ℕ). Same m (m.joined (row.costs z) f.link.cost) (row.costs B)) (sym f.starts) f.tight in
-      let tight = subst (λ (z : ℕ). Same m (m.joined (row.costs f.link.from) f.link.cost) (row.costs z)) (sym f.ends) tight_from in
-      subst (λ (z : ℕ). Walked m net A row z (xs ++ z ∷ [])) f.ends (walked_on f.link before f.laid tight)
+      let fits_from = subst (λ (z : ℕ). Same m (m.joined (row.costs z) f.link.cost) (row.costs B)) (sym f.starts) f.fits in
+      let fits = subst (λ (z : ℕ). Same m (m.joined (row.costs f.link.from) f.link.cost) (row.costs z)) (sym f.ends) fits_from in
+      subst (λ (z : ℕ). Walked m net A row z (xs ++ z ∷ [])) f.ends (walked_on f.link before f.laid fits)
 
   -- on it stand stations alone
   there : {B : ℕ} {xs : List ℕ} → B < net.stations → Chain row A B xs → (s : ℕ) → 1 ≤ times s xs → s < net.stations
@@ -141,7 +141,7 @@ module _ {K : Type 0} {m : Kind K} (laws : Laws m) {net : Network K} {A : ℕ} {
         let f = linked.by_link B given.0 within given.1 in
         let far = far_before laws (row.costs given.0) f.link.cost in
         let fits = at_most_far laws (row.costs given.0) in
-        let tight = f.tight in
+        let fits = f.fits in
         let near_before : Below m (row.costs given.0) m.far = grind (arith, cases_eq (m.rank (row.costs given.0)) (m.rank m.far)) in
         let so_far = reach_below b given.0 f.station (omega (arith, rises B given.0 within given.1)) near_before in
         (so_far.0 ++ B ∷ [], after so_far.1 given.1))

@@ -5,7 +5,7 @@ use Rattle.std.specs.List.{Contains}
 use Rattle.cost.specs.Kind.{Kind, Same, AtMost, Below}
 use Rattle.cost.specs.Laws.{Laws, Strict, ZeroLeast}
 use Rattle.cost.specs.declared.link.Link.{Link}
-use Rattle.routes.proofs.Chains.{TightLink, Linked, reach}
+use Rattle.routes.proofs.Chains.{FittingLink, Linked, reach}
 use Rattle.routes.proofs.Costs.{far_before, at_most_far}
 use Rattle.routes.proofs.JoinedWalks.{LastLink, link_of_last, last_ends, last_same, goes_on_to}
 use Rattle.routes.proofs.RightRows.{no_better}
@@ -33,21 +33,21 @@ module _ {K : Type 0} {m : Kind K} (laws : Laws m) {net : Network K} {A : ℕ} {
     at_most_into l B laid ends = subst (λ (z : ℕ). AtMost m (row.costs z) (m.joined (row.costs l.from) l.cost)) ends (no_better laws between right l laid)
 
     -- a predecessor's cost, joined with the link by which a walk of least cost goes on from it, is the cost of the station after it
-    pub tight_last : {B p : ℕ} (by : LastLink m net A p B (row.costs B)) → Same m (m.joined (row.costs p) by.link.cost) (row.costs B)
-    tight_last {B} {p} by =
+    pub fitting_last : {B p : ℕ} (by : LastLink m net A p B (row.costs B)) → Same m (m.joined (row.costs p) by.link.cost) (row.costs B)
+    fitting_last {B} {p} by =
         let runs = (between by.link by.laid).0 in
         let no_less = (right.least p (subst (λ (z : ℕ). z < net.stations) by.starts runs)).none_less by.walk in
         let over = subst (λ (z : ℕ). AtMost m (row.costs B) (m.joined (row.costs z) by.link.cost)) by.starts (at_most_into by.link B by.laid by.ends) in
         omega (arith, by.same, laws.join_keeps_right (row.costs p) by.cost by.link.cost no_less)
 
     -- where two stations have one link, that is the link between them
-    tight_link : OnePerPair net → (B p : ℕ) → LastBefore m net A p B (row.costs B) → (l : Link K) → Contains net.links l → l.from ≡ p → l.to ≡ B
+    fitting_link : OnePerPair net → (B p : ℕ) → LastBefore m net A p B (row.costs B) → (l : Link K) → Contains net.links l → l.from ≡ p → l.to ≡ B
         → Same m (m.joined (row.costs l.from) l.cost) (row.costs B)
-    tight_link one B p last l laid starts ends =
+    fitting_link one B p last l laid starts ends =
         let by = link_of_last last in
         let same : by.link ≡ l = one by.link l by.laid laid (by.starts ∙ sym starts) (by.ends ∙ sym ends) in
-        let tight = subst (λ (z : Link K). Same m (m.joined (row.costs p) z.cost) (row.costs B)) same (tight_last by) in
-        subst (λ (z : ℕ). Same m (m.joined (row.costs z) l.cost) (row.costs B)) (sym starts) tight
+        let fits = subst (λ (z : Link K). Same m (m.joined (row.costs p) z.cost) (row.costs B)) same (fitting_last by) in
+        subst (λ (z : ℕ). Same m (m.joined (row.costs z) l.cost) (row.costs B)) (sym starts) fits
 
     -- each station passes its tests
     right_holds : ZeroLeast m → OnePerPair net → A < net.stations → (B : ℕ) → B < net.stations → Holds m net A row B
@@ -63,7 +63,7 @@ module _ {K : Type 0} {m : Kind K} (laws : Laws m) {net : Network K} {A : ℕ} {
           );
           station = λ p is. last_ends between source (right.given B p within is);
           linked = λ p is. let by = link_of_last (right.given B p within is) in record { link = by.link; laid = by.laid; starts = by.starts; ends = by.ends };
-          tight = λ p is. tight_link one B p (right.given B p within is);
+          fits = λ p is. fitting_link one B p (right.given B p within is);
           least = λ l laid ends. at_most_into l B laid ends;
         }
 
@@ -77,13 +77,13 @@ module _ {K : Type 0} {m : Kind K} (laws : Laws m) {net : Network K} {A : ℕ} {
         omega (arith, laws.join_keeps_right (row.costs l.from) c l.cost (none_less walk))
 
     module _ (strict : Strict m) (none_free : NoneFree m net) where
-      -- a tight link leads to each station from its predecessor
-      by_link : (B p : ℕ) → B < net.stations → row.predecessors B ≡ Some p → TightLink m net row p B
+      -- a fitting link leads to each station from its predecessor
+      by_link : (B p : ℕ) → B < net.stations → row.predecessors B ≡ Some p → FittingLink m net row p B
       by_link B p within is =
           let h = holds B within in
           let by = h.linked p is in
-          let tight = subst (λ (z : ℕ). Same m (m.joined (row.costs z) by.link.cost) (row.costs B)) by.starts (h.tight p is by.link by.laid by.starts by.ends) in
-          record { station = h.station p is; link = by.link; laid = by.laid; starts = by.starts; ends = by.ends; tight = tight }
+          let fits = subst (λ (z : ℕ). Same m (m.joined (row.costs z) by.link.cost) (row.costs B)) by.starts (h.fits p is by.link by.laid by.starts by.ends) in
+          record { station = h.station p is; link = by.link; laid = by.laid; starts = by.starts; ends = by.ends; fits = fits }
 
       linked : Linked m net A row
       linked =
@@ -104,7 +104,7 @@ module _ {K : Type 0} {m : Kind K} (laws : Laws m) {net : Network K} {A : ℕ} {
           let f = by_link B p within is in
           let other : B ≡ A → ⊥ = λ e. let none = h.none_at_source e in cc in
           let near : Same m (row.costs B) m.far → ⊥ = λ far. let none = (h.none_at_far other).1 (omega (arith, laws.far_rank)) in cc in
-          joins_from_below laws strict (row.costs p) (row.costs B) f.link.cost f.tight near (none_free f.link f.laid)
+          joins_from_below laws strict (row.costs p) (row.costs B) f.link.cost f.fits near (none_free f.link f.laid)
 
       -- so each cost below FAR is that of a walk
       walked : (B : ℕ) → B < net.stations → (Same m (row.costs B) m.far → ⊥) → SomeWalk m net A B (row.costs B)
@@ -124,7 +124,7 @@ module _ {K : Type 0} {m : Kind K} (laws : Laws m) {net : Network K} {A : ℕ} {
             given = λ B p within is.
                 let f = by_link B p within is in
                 let walk = walked p f.station (λ far. omega (arith, rises B p within is, at_most_far laws (row.costs B))) in
-                last_same (goes_on_to laws f.link walk f.laid f.starts f.ends) f.tight;
+                last_same (goes_on_to laws f.link walk f.laid f.starts f.ends) f.fits;
           }
 
 -- the two theorems

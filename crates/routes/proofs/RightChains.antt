@@ -1,9 +1,9 @@
--- In a right row tight links lead from the predecessors.
+-- In a right row fitting links lead from the predecessors.
 use Rattle.std.proofs.Common.{◌≡◌, ℕ, ◌<◌, List, inl, inr, ⊎_elim, Some, refl, arith}
 use Rattle.cost.specs.Kind.{Kind, Same, Below}
 use Rattle.cost.specs.Laws.{Laws, Strict, ZeroLeast}
-use Rattle.routes.proofs.Chains.{TightLink, Linked, one_chain, route, reach}
-use Rattle.routes.proofs.Checked.{given_or_missing, joins_from_below, tight_last}
+use Rattle.routes.proofs.Chains.{FittingLink, Linked, one_chain, route, reach}
+use Rattle.routes.proofs.Checked.{given_or_missing, joins_from_below, fitting_last}
 use Rattle.routes.proofs.Costs.{zero_least_from_strict}
 use Rattle.routes.proofs.JoinedWalks.{link_of_last, last_ends}
 use Rattle.routes.specs.Chain.{Chain, Route}
@@ -13,12 +13,12 @@ use Rattle.routes.specs.Walk.{stay}
 
 module _ {K : Type 0} {m : Kind K} (laws : Laws m) (zero_least : ZeroLeast m) {net : Network K} {A : ℕ} {row : Row K}
     (between : Between net) (source : A < net.stations) (right : Right m net A row) where
-  -- a tight link leads to each station from its predecessor
-  by_link : (v p : ℕ) → v < net.stations → row.predecessors v ≡ Some p → TightLink m net row p v
+  -- a fitting link leads to each station from its predecessor
+  by_link : (v p : ℕ) → v < net.stations → row.predecessors v ≡ Some p → FittingLink m net row p v
   by_link v p within is =
       let last = right.given v p within is in
       let by = link_of_last last in
-      record { station = last_ends between source last; link = by.link; laid = by.laid; starts = by.starts; ends = by.ends; tight = tight_last laws between right by }
+      record { station = last_ends between source last; link = by.link; laid = by.laid; starts = by.starts; ends = by.ends; fits = fitting_last laws between right by }
 
   linked : Linked m net A row
   linked =
@@ -54,7 +54,7 @@ strict_reach {m = m} {row = row} laws strict between none_free source within rig
     (λ v p there is.
     let f = by_link laws zero_least between source right v p there is in
     let near : Same m (row.costs v) m.far → ⊥ = λ far. let none = (right.missing v there).1 (inr far) in cc in
-    joins_from_below laws strict (row.costs p) (row.costs v) f.link.cost f.tight near (none_free f.link f.laid))
+    joins_from_below laws strict (row.costs p) (row.costs v) f.link.cost f.fits near (none_free f.link f.laid))
     within
 
 -- what the contract wants

@@ -24,7 +24,7 @@ pub record Holds {K : Type 0} (m : Kind K) (net : Network K) (A : ℕ) (row : Ro
   pub none_at_far : (B ≡ A → ⊥) → (row.predecessors B ≡ None) ↔ (m.rank (row.costs B) ≡ FAR)
   pub station : (p : ℕ) → row.predecessors B ≡ Some p → p < net.stations
   pub linked : (p : ℕ) → row.predecessors B ≡ Some p → Laid net p B
-  pub tight : (p : ℕ) → row.predecessors B ≡ Some p → (l : Link K) → Contains net.links l → l.from ≡ p → l.to ≡ B
+  pub fits : (p : ℕ) → row.predecessors B ≡ Some p → (l : Link K) → Contains net.links l → l.from ≡ p → l.to ≡ B
       → Same m (m.joined (row.costs l.from) l.cost) (row.costs B)
   pub least : (l : Link K) → Contains net.links l → l.to ≡ B → m.rank (row.costs B) ≤ m.rank (m.joined (row.costs l.from) l.cost)
 
@@ -88,15 +88,15 @@ module _ {K : Type 0} (m : Kind K) (net : Network K) (A : ℕ) (row : Row K) (B 
       let some = any_from_in (λ (l : Link K). leads m net A row q B l && not (rank_over m net A row l == rank_at m net A row B)) net.links l laid in
       grind (arith, nat_tests)
 
-  tight_test : (o : Option ℕ)
+  fits_test : (o : Option ℕ)
       → ((p : ℕ) → o ≡ Some p → (l : Link K) → Contains net.links l → l.from ≡ p → l.to ≡ B → Same m (m.joined (row.costs l.from) l.cost) (row.costs B))
       → loose m net A row B o ≡ false
-  tight_test None tight = refl
-  tight_test (Some p) tight =
+  fits_test None fits = refl
+  fits_test (Some p) fits =
       false_from_ne_true _ (λ some.
       let by = in_from_any (λ (l : Link K). leads m net A row p B l && not (rank_over m net A row l == rank_at m net A row B)) net.links some in
       let by_it : ((by.0.from == p && by.0.to == B) && not (rank_over m net A row by.0 == rank_at m net A row B)) ≡ true = by.2 in
-      let same = tight p refl by.0 by.1 in
+      let same = fits p refl by.0 by.1 in
       grind (arith, nat_tests))
 
   from_undercut : undercut m net A row B ≡ false → (l : Link K) → Contains net.links l → l.to ≡ B → m.rank (row.costs B) ≤ m.rank (m.joined (row.costs l.from) l.cost)
@@ -119,7 +119,7 @@ module _ {K : Type 0} (m : Kind K) (net : Network K) (A : ℕ) (row : Row K) (B 
       (source_test B A (m.rank (row.costs B)) (m.rank m.zero) (row.predecessors B) h.zero_at_source h.none_at_source)
       (reach_test B A (m.rank (row.costs B)) (row.predecessors B) h.none_at_far)
       (linked_test (row.predecessors B) h.station h.linked)
-      (tight_test (row.predecessors B) h.tight)
+      (fits_test (row.predecessors B) h.fits)
       (least_test h.least) cause
 
   pub holds_from_passes : ((cause : ℕ) → fails m net A row B cause ≡ false) → Holds m net A row B
@@ -131,6 +131,6 @@ module _ {K : Type 0} (m : Kind K) (net : Network K) (A : ℕ) (row : Row K) (B 
         none_at_far = from_reach_test B A (m.rank (row.costs B)) (row.predecessors B) tests.1;
         station = λ p is. (from_unlinked (row.predecessors B) p tests.2 is).0;
         linked = λ p is. (from_unlinked (row.predecessors B) p tests.2 is).1;
-        tight = λ p is. from_loose (row.predecessors B) p tests.3 is;
+        fits = λ p is. from_loose (row.predecessors B) p tests.3 is;
         least = from_undercut tests.4;
       }

@@ -1,14 +1,16 @@
 -- The six stations are what the theorems speak of: their links are sound, the worked rows right, and the steps those of whole runs.
-use Rattle.std.proofs.Common.{◌≡◌, ◌≢◌, ℕ, ◌<◌, ◌≤◌, Bool, true, false, not, ◌&&◌, ◌||◌, ◌==◌, nat_lt, ⊎_elim, List, [], ◌∷◌, ◌++◌, Some, refl, ap, subst, sym, arith, rules}
-use Rattle.std.specs.List.{Contains, list_all, range_with_len}
-use Rattle.std.proofs.lemmas.Bool.{cases_eq}
+use Rattle.std.proofs.Common.{Option, is_some, is_none, nat_le, None, append_assoc, ◌≡◌, ◌≢◌, ℕ, ◌<◌, Bool, true, false, not, ◌&&◌, ◌||◌, ◌==◌, nat_lt, ⊎_elim, List, [], ◌∷◌, ◌++◌, Some, refl, ap, subst, sym, arith, rules}
+use Rattle.std.specs.List.{fold, Contains, list_all, range_with_len}
+use Rattle.std.proofs.lemmas.Bool.{cases_eq, leb-true, and_parts}
 use Rattle.std.proofs.lemmas.Bool.Decides.{nat_tests}
+use Rattle.std.proofs.lemmas.List.{append-nil}
 use Rattle.std.proofs.lemmas.List.Elements.{All-contains}
 use Rattle.std.proofs.lemmas.List.Sums.{AllPass-from_list_all}
 use Rattle.cost.specs.Laws.{Laws, Strict}
 use Rattle.cost.specs.Sum.{sum_kind}
 use Rattle.cost.specs.declared.link.Link.{Link}
 use Rattle.cost.specs.declared.sum.Sum.{Sum}
+use Rattle.queue.specs.Meaning.{Lowest}
 use Rattle.routes.specs.Network.{Between, OnePerPair, NoneFree}
 use Rattle.routes.specs.Row.{Row, Right}
 use Rattle.routes.specs.Fails.{fails, wrong_source, wrong_reach, unlinked, loose, undercut}
@@ -18,7 +20,9 @@ use Rattle.routes.specs.Runs.{followed, Reached, Run, start, next}
 use Rattle.routes.specs.Six.{six, row_of_zero, row_of_two, both_worked, to_work, after}
 use Rattle.routes.specs.declared.method.Method.{Method}
 use Rattle.routes.specs.declared.method.Method.TheVariants.{Plain, Reuse, Prune}
+use Rattle.routes.proofs.Costs.{zero_least_from_strict}
 use Rattle.routes.proofs.Members.{in_range}
+use Rattle.routes.proofs.Takings.{reached_standing}
 use Rattle.routes.proofs.Checked.{passes_right}
 
 sum_laws : Laws sum_kind
@@ -96,34 +100,61 @@ rows_sound method xs = record { right = λ t row on_it is. worked_right t row is
 pub source_sound : (method : Method) → Workable (to_work method both_worked)
 source_sound method = record { source_there = omega arith; between = six_between }
 
--- a station that waits, at a rank that nobody waits below, is taken
-take_on : {task : Task Sum} {xs : List ℕ} {s : State Sum} (t x : ℕ) → Reached sum_kind task xs s → s.queue.ranks t ≡ Some x → ((u y : ℕ) → s.queue.ranks u ≡ Some y → x ≤ y)
-    → Reached sum_kind task (xs ++ t ∷ []) (followed sum_kind task s t)
-take_on t x reached waits least = next reached (record { rank = x; waits = waits; least = least })
+-- whether a station may be taken, and whether stations may be taken one after the other until nobody waits: as tests of the six
+abbrev may_wait_behind : Option ℕ → Option ℕ → Bool
+may_wait_behind (Some x) (Some y) = nat_le x y
+may_wait_behind x y = true
 
--- a whole run of each method
+abbrev may_take : State Sum → ℕ → Bool
+may_take s t = is_some (s.queue.ranks t) && list_all (λ v. may_wait_behind (s.queue.ranks t) (s.queue.ranks v)) (range_with_len 0 6)
+
+abbrev may_take_all : Task Sum → State Sum → List ℕ → Bool
+may_take_all task s [] = list_all (λ v. is_none (s.queue.ranks v)) (range_with_len 0 6)
+may_take_all task s (t ∷ ts) = may_take s t && may_take_all task (followed sum_kind task s t) ts
+
+module _ (method : Method) where
+  abbrev task : Task Sum
+  task = to_work method both_worked
+
+  -- only the six wait
+  six_wait : {xs : List ℕ} {s : State Sum} → Reached sum_kind task xs s → (v : ℕ) → is_some (s.queue.ranks v) ≡ true → v < 6
+  six_wait reached v waits = ((reached_standing sum_laws (zero_least_from_strict sum_laws sum_strict) (source_sound method) reached).1.waiting v waits).0
+
+  lowest_of : {xs : List ℕ} {s : State Sum} → Reached sum_kind task xs s → (t : ℕ) (q : Option ℕ) → s.queue.ranks t ≡ q
+      → (is_some q && list_all (λ v. may_wait_behind q (s.queue.ranks v)) (range_with_len 0 6)) ≡ true → Lowest s.queue t
+  lowest_of reached t None at may = absurd (cc may)
+  lowest_of {s = s} reached t (Some x) at may = record {
+    rank = x;
+    waits = at;
+    least = λ v y waits.
+        let test = each_passes (λ v. may_wait_behind (Some x) (s.queue.ranks v)) (range_with_len 0 6) may v (in_range 6 v (six_wait reached v (ap is_some waits))) in
+        let le : nat_le x y ≡ true = rw waits at test in
+        leb-true x y le;
+  }
+
+  run_on : (ts : List ℕ) {xs : List ℕ} {s : State Sum} → Reached sum_kind task xs s → may_take_all task s ts ≡ true → Run sum_kind task (xs ++ ts) (fold (followed sum_kind task) s ts)
+  run_on [] {xs} {s} reached may =
+      rw (append-nil xs) (record {
+        reached = reached;
+        over = λ v. none_waits (s.queue.ranks v) (λ waits. each_passes (λ u. is_none (s.queue.ranks u)) (range_with_len 0 6) may v (in_range 6 v (six_wait reached v waits)));
+      })
+    where
+      none_waits : (q : Option ℕ) → (is_some q ≡ true → is_none q ≡ true) → q ≡ None
+      none_waits None test = refl
+      none_waits (Some x) test = absurd (cc (test refl))
+  run_on (t ∷ ts) {xs} {s} reached may =
+      let parts = and_parts (may_take s t) (may_take_all task (followed sum_kind task s t) ts) may in
+      subst (λ (zs : List ℕ). Run sum_kind task zs (fold (followed sum_kind task) s (t ∷ ts))) (append_assoc xs (t ∷ []) ts)
+      (run_on ts (next reached (lowest_of reached t (s.queue.ranks t) refl parts.0)) parts.1)
+
 pub plain_run : Run sum_kind (to_work Plain both_worked) (0 ∷ 2 ∷ 1 ∷ 3 ∷ 4 ∷ []) (after (to_work Plain both_worked) (0 ∷ 2 ∷ 1 ∷ 3 ∷ 4 ∷ []))
-plain_run =
-    let take1 : Reached sum_kind (to_work Plain both_worked) (0 ∷ []) (after (to_work Plain both_worked) (0 ∷ [])) = take_on 0 0 start refl (λ u y w. omega arith) in
-    let take2 : Reached sum_kind (to_work Plain both_worked) (0 ∷ 2 ∷ []) (after (to_work Plain both_worked) (0 ∷ 2 ∷ [])) = take_on 2 1 take1 refl (λ u y w. grind (arith, nat_tests)) in
-    let take3 : Reached sum_kind (to_work Plain both_worked) (0 ∷ 2 ∷ 1 ∷ []) (after (to_work Plain both_worked) (0 ∷ 2 ∷ 1 ∷ [])) = take_on 1 3 take2 refl (λ u y w. grind (arith, nat_tests)) in
-    let take4 : Reached sum_kind (to_work Plain both_worked) (0 ∷ 2 ∷ 1 ∷ 3 ∷ []) (after (to_work Plain both_worked) (0 ∷ 2 ∷ 1 ∷ 3 ∷ [])) = take_on 3 8 take3 refl (λ u y w. grind (arith, nat_tests)) in
-    let take5 : Reached sum_kind (to_work Plain both_worked) (0 ∷ 2 ∷ 1 ∷ 3 ∷ 4 ∷ []) (after (to_work Plain both_worked) (0 ∷ 2 ∷ 1 ∷ 3 ∷ 4 ∷ [])) = take_on 4 9 take4 refl (λ u y w. grind (arith, nat_tests)) in
-    record { reached = take5; over = λ u. grind (arith, nat_tests) }
+plain_run = run_on Plain (0 ∷ 2 ∷ 1 ∷ 3 ∷ 4 ∷ []) start refl
 
 pub reuse_run : Run sum_kind (to_work Reuse both_worked) (0 ∷ []) (after (to_work Reuse both_worked) (0 ∷ []))
-reuse_run =
-    let take1 : Reached sum_kind (to_work Reuse both_worked) (0 ∷ []) (after (to_work Reuse both_worked) (0 ∷ [])) = take_on 0 0 start refl (λ u y w. omega arith) in
-    record { reached = take1; over = λ u. grind (arith, nat_tests) }
+reuse_run = run_on Reuse (0 ∷ []) start refl
 
 pub prune_run : Run sum_kind (to_work Prune both_worked) (0 ∷ 2 ∷ 1 ∷ 3 ∷ 4 ∷ []) (after (to_work Prune both_worked) (0 ∷ 2 ∷ 1 ∷ 3 ∷ 4 ∷ []))
-prune_run =
-    let take1 : Reached sum_kind (to_work Prune both_worked) (0 ∷ []) (after (to_work Prune both_worked) (0 ∷ [])) = take_on 0 0 start refl (λ u y w. omega arith) in
-    let take2 : Reached sum_kind (to_work Prune both_worked) (0 ∷ 2 ∷ []) (after (to_work Prune both_worked) (0 ∷ 2 ∷ [])) = take_on 2 1 take1 refl (λ u y w. grind (arith, nat_tests)) in
-    let take3 : Reached sum_kind (to_work Prune both_worked) (0 ∷ 2 ∷ 1 ∷ []) (after (to_work Prune both_worked) (0 ∷ 2 ∷ 1 ∷ [])) = take_on 1 3 take2 refl (λ u y w. grind (arith, nat_tests)) in
-    let take4 : Reached sum_kind (to_work Prune both_worked) (0 ∷ 2 ∷ 1 ∷ 3 ∷ []) (after (to_work Prune both_worked) (0 ∷ 2 ∷ 1 ∷ 3 ∷ [])) = take_on 3 8 take3 refl (λ u y w. grind (arith, nat_tests)) in
-    let take5 : Reached sum_kind (to_work Prune both_worked) (0 ∷ 2 ∷ 1 ∷ 3 ∷ 4 ∷ []) (after (to_work Prune both_worked) (0 ∷ 2 ∷ 1 ∷ 3 ∷ 4 ∷ [])) = take_on 4 9 take4 refl (λ u y w. grind (arith, nat_tests)) in
-    record { reached = take5; over = λ u. grind (arith, nat_tests) }
+prune_run = run_on Prune (0 ∷ 2 ∷ 1 ∷ 3 ∷ 4 ∷ []) start refl
 
 -- what the contract wants
 pub ruleset worked_out = (links_sound, rows_right, source_sound, rows_sound, plain_run, reuse_run, prune_run)
