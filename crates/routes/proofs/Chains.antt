@@ -140,7 +140,7 @@ module _ {K : Type 0} {m : Kind K} (laws : Laws m) {net : Network K} {A : ℕ} {
         let given = linked.some B within other near in
         let f = linked.by_link B given.0 within given.1 in
         let far = far_before laws (row.costs given.0) f.link.cost in
-        let fits = at_most_far laws (row.costs given.0) in
+        let most = at_most_far laws (row.costs given.0) in
         let fits = f.fits in
         let near_before : Below m (row.costs given.0) m.far = grind (arith, cases_eq (m.rank (row.costs given.0)) (m.rank m.far)) in
         let so_far = reach_below b given.0 f.station (omega (arith, rises B given.0 within given.1)) near_before in

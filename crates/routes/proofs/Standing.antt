@@ -7,7 +7,7 @@ use Rattle.std.proofs.lemmas.List.Sums.{sum_by_push}
 use Rattle.cost.specs.Kind.{Kind, FAR}
 use Rattle.queue.specs.Drained.{times}
 use Rattle.queue.specs.Meaning.{Lowest}
-use Rattle.routes.specs.Chain.{NoneTwice}
+use Rattle.routes.specs.NoneTwice.{NoneTwice}
 use Rattle.routes.specs.State.{State}
 use Rattle.routes.specs.Offers.{Offer}
 use Rattle.routes.specs.Runs.{taking}

@@ -7,7 +7,7 @@ use Rattle.cost.specs.Kind.{Kind, FAR}
 use Rattle.cost.specs.Laws.{Laws, ZeroLeast}
 use Rattle.queue.specs.Drained.{times}
 use Rattle.queue.specs.Meaning.{Nobody, Lowest, most_stations, most_taken}
-use Rattle.routes.specs.Chain.{NoneTwice}
+use Rattle.routes.specs.NoneTwice.{NoneTwice}
 use Rattle.routes.specs.Offers.{Offer, offered, offered_all}
 use Rattle.routes.specs.Methods.{offers}
 use Rattle.routes.specs.Runs.{Reached, Run, start, next, taking, followed, below_far}

@@ -1,12 +1,11 @@
 -- Chains of predecessors.
 --
 --   Chain row A B xs          the stations xs lead from A to B, each but the first after its predecessor in the row
---   NoneTwice xs              no station stands in xs twice
 --   Route m net A row B xs    xs are the stations of a walk from A to B that costs what the row says of B, none of them twice, and so at
 --                             most as many as there are stations
 use Rattle.std.specs.Prelude.{◌≡◌, ℕ, ◌≤◌, List, [], ◌∷◌, ◌++◌, length, Some}
 use Rattle.cost.specs.Kind.{Kind, Same}
-use Rattle.queue.specs.Drained.{times}
+use Rattle.routes.specs.NoneTwice.{NoneTwice}
 use Rattle.routes.specs.Network.{Network}
 use Rattle.routes.specs.Row.{Row}
 use Rattle.routes.specs.Walk.{Walk, stations_of}
@@ -14,9 +13,6 @@ use Rattle.routes.specs.Walk.{Walk, stations_of}
 pub data Chain {K : Type 0} (row : Row K) (A : ℕ) : ℕ → List ℕ → Type 0 where
   source : Chain row A A (A ∷ [])
   after : {p B : ℕ} {xs : List ℕ} → Chain row A p xs → row.predecessors B ≡ Some p → Chain row A B (xs ++ B ∷ [])
-
-pub record NoneTwice (xs : List ℕ) : Type 0 where
-  pub at_most_once : (s : ℕ) → times s xs ≤ 1
 
 pub record Route {K : Type 0} (m : Kind K) (net : Network K) (A : ℕ) (row : Row K) (B : ℕ) (xs : List ℕ) : Type 0 where
   pub cost : K

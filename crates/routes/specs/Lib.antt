@@ -3,6 +3,7 @@ pub mod Walk
 pub mod Least
 pub mod Row
 pub mod Fails
+pub mod NoneTwice
 pub mod Chain
 pub mod Task
 pub mod State

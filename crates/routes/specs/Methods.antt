@@ -8,6 +8,7 @@
 --   reuse                    along row t where that is worked, else plain
 --   prune                    where t is not the source, and the row of its first station after the source is worked, over the links from t
 --                            that are tight in that row; else over all
+--   guided                   whether a link is tight in a row, if there is one; else any link is followed
 --   offers m task s t        what t offers in state s by the task's method
 use Rattle.std.specs.Prelude.{ℕ, Bool, true, false, not, ◌&&◌, ◌==◌, List, map, Option, Some, None, if◌then◌else◌}
 use Rattle.std.specs.List.{filter, range_with_len}

@@ -2,7 +2,7 @@
 --
 --   Network K          how many stations there are, and the links in the order in which they were laid
 --   Between net        every link runs from one of the stations to one of them
---   OnePerPair net     two stations have one link in a direction, or none
+--   OnePerPair net     two stations have one link in a direction, or none: two of one pair are the same
 --   NoneFree m net     no link costs zero
 use Rattle.std.specs.Prelude.{◌≡◌, ℕ, ◌<◌, List}
 use Rattle.std.specs.List.{Contains}

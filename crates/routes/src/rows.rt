@@ -7,7 +7,8 @@ ghost use Rattle.routes.specs.Row.{Row, Right};
 ghost use Rattle.routes.specs.Fails.{NoneFails};
 ghost use Rattle.routes.specs.Chain.{Chain, Route};
 
-// No station of a row fails exactly when the row is right.
+// No station of a row fails exactly when the row is right. That a right row passes is shown where a pair of stations has one link in a direction; the
+// other way round, by the strict laws, where no link costs zero.
 #[tactic(auto, using(crate::proofs::Checked::checked))]
 pub fn right_rows_pass<K>()
     ensures passes { (m : Kind K) → Laws m → ZeroLeast m → (net : Network K) (A : ℕ) (row : Row K) → Between net → OnePerPair net → A < net.stations → Right m net A row → NoneFails m net A row }

@@ -4,7 +4,8 @@ ghost use Rattle.cost.specs.Kind.{Kind, Below};
 ghost use Rattle.cost.specs.Laws.{Laws, Strict, ZeroLeast};
 ghost use Rattle.queue.specs.Meaning.{most_stations};
 ghost use Rattle.routes.specs.Row.{Right};
-ghost use Rattle.routes.specs.Chain.{Chain, NoneTwice, Route};
+ghost use Rattle.routes.specs.NoneTwice.{NoneTwice};
+ghost use Rattle.routes.specs.Chain.{Chain, Route};
 ghost use Rattle.routes.specs.Task.{Task, Workable, RowsRight};
 ghost use Rattle.routes.specs.State.{State};
 ghost use Rattle.routes.specs.Runs.{Reached, Run, below_far};
@@ -18,7 +19,8 @@ pub fn runs_end<K>()
     ensures ends { (m : Kind K) → Laws m → ZeroLeast m → (task : Task K) (xs : List ℕ) (s : State K) → Workable task → Reached m task xs s → (ys : List ℕ) × (e : State K) × Run m task (xs ++ ys) e }
 {}
 
-// The queue counts what a run takes: after plain and prune as many as have a cost below FAR, after reuse at least one and at most those.
+// Where a queue can hold the stations it counts what a run takes: after plain and prune as many as have a cost below FAR, after reuse at least one and at
+// most as many.
 #[tactic(auto, using(crate::proofs::Takings::counts))]
 pub fn runs_count<K>()
     ensures taken { (m : Kind K) → Laws m → ZeroLeast m → (task : Task K) (xs : List ℕ) (s : State K) → Workable task → task.network.stations ≤ most_stations → Reached m task xs s → s.queue.taken ≡ length xs }
@@ -27,8 +29,7 @@ pub fn runs_count<K>()
     ensures all { (m : Kind K) → Laws m → ZeroLeast m → (task : Task K) (xs : List ℕ) (s : State K) → Workable task → task.network.stations ≤ most_stations → (task.method ≢ Reuse) → Run m task xs s → s.queue.taken ≡ below_far m task.network.stations s.row }
 {}
 
-// Every run of every method ends in a right row, if of the stations that it takes those rows that are worked are right: it reads no others. Only
-// prune uses the strict laws.
+// Every run of every method ends in a right row, if the worked rows of the stations that it takes are right. Only prune uses the strict laws.
 #[tactic(auto, using(crate::proofs::Ends::right_from_rows))]
 pub fn runs_end_right<K>()
     ensures right { (m : Kind K) → Laws m → ZeroLeast m → (task : Task K) (xs : List ℕ) (s : State K) → Workable task → RowsRight m task xs → (task.method ≡ Prune → Strict m) → Run m task xs s → Right m task.network task.source s.row }
