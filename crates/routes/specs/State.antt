@@ -1,9 +1,9 @@
--- The state in which the working of a row is.
+-- The state of a row that is being worked.
 --
 --   State K          the labels, which are the costs found so far, and their predecessors; the first station after the source on the
 --                    way to each label, where the method keeps it; the queue
 --   written f v x    f, but x for v
---   begun m task     the source at zero, waiting; every other station at FAR
+--   begun m task     the source at zero, waiting; every other station at FAR; no predecessor
 use Rattle.std.specs.Prelude.{ℕ, Option, None, ◌==◌, if◌then◌else◌}
 use Rattle.cost.specs.Kind.{Kind}
 use Rattle.queue.specs.Calls.{fresh, after_put}

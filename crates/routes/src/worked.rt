@@ -1,4 +1,4 @@
-// Six stations, worked by hand.
+// Six stations, by the definitions and by the rules.
 ghost use Rattle.std.specs.Prelude.{◌≡◌, ℕ, List, [], ◌∷◌};
 ghost use Rattle.cost.specs.Sum.{sum_kind};
 ghost use Rattle.routes.specs.Network.{Between, OnePerPair, NoneFree};
