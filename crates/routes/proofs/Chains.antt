@@ -1,15 +1,15 @@
 -- Predecessors from which fitting links lead make routes.
-use Rattle.std.proofs.Common.{◌≡◌, ℕ, zero, suc, ◌+◌, ◌<◌, ◌≤◌, List, [], ◌∷◌, ◌++◌, ◌==◌, ⊎_elim, None, Some, cond, length, nat_lt, refl, subst, sym, ap, ◌∙◌, arith}
-use Rattle.std.proofs.lemmas.Bool.{cases_eq, cases_lt}
+use Rattle.std.proofs.Common.{◌≡◌, ℕ, zero, suc, ◌<◌, ◌≤◌, List, [], ◌∷◌, ◌++◌, ◌==◌, ⊎_elim, None, Some, cond, length, nat_lt, refl, subst, sym, ap, ◌∙◌, arith}
+use Rattle.std.proofs.lemmas.Bool.{cases_eq}
 use Rattle.std.proofs.lemmas.Bool.Decides.{nat_tests}
 use Rattle.std.proofs.lemmas.List.{length_push}
-use Rattle.std.proofs.lemmas.List.Sums.{sum_by-cons, sum_by_push}
+use Rattle.std.proofs.lemmas.List.Sums.{sum_by_push}
 use Rattle.std.specs.List.{Contains}
 use Rattle.cost.specs.Kind.{Kind, Same, Below}
 use Rattle.cost.specs.Laws.{Laws}
 use Rattle.cost.specs.declared.link.Link.{Link}
-use Rattle.queue.proofs.EachOnce.{none_below}
 use Rattle.queue.specs.Drained.{times}
+use Rattle.routes.proofs.Counting.{counted_few, at_most_counted}
 use Rattle.routes.proofs.Costs.{same_left, far_before, at_most_far}
 use Rattle.routes.specs.Chain.{Chain, source as begin, after, Route}
 use Rattle.routes.specs.Network.{Network}
@@ -32,16 +32,6 @@ pub record Linked {K : Type 0} (m : Kind K) (net : Network K) (A : ℕ) (row : R
   pub none_at_source : row.predecessors A ≡ None
   pub by_link : (v p : ℕ) → v < net.stations → row.predecessors v ≡ Some p → FittingLink m net row p v
   pub some : (v : ℕ) → v < net.stations → (v ≡ A → ⊥) → Below m (row.costs v) m.far → (p : ℕ) × (row.predecessors v ≡ Some p)
-
--- numbers that stand in a list at most once, all below n, are at most n
-at_most_all : (n : ℕ) (xs : List ℕ) → ((s : ℕ) → times s xs ≤ cond (nat_lt s n) 1 0) → length xs ≤ n
-at_most_all n [] once = omega arith
-at_most_all n (x ∷ xs) once =
-    let fits : (s : ℕ) → times s xs + cond (x == s) 1 0 ≤ cond (nat_lt s n) 1 0 = λ s. omega (arith, once s, sum_by-cons (λ y. cond (y == s) 1 0) x xs) in
-    ⊎_elim
-    (λ short. omega arith)
-    (λ full. let none = none_below (λ s. cond (x == s) 1 0) xs n fits full x in absurd (grind (arith, nat_tests)))
-    (cases_lt (length xs) n)
 
 -- a walk of the cost that the row says of B, with its stations
 record Walked {K : Type 0} (m : Kind K) (net : Network K) (A : ℕ) (row : Row K) (B : ℕ) (xs : List ℕ) : Type 0 where
@@ -126,7 +116,10 @@ module _ {K : Type 0} {m : Kind K} (laws : Laws m) {net : Network K} {A : ℕ} {
         costs_that = walk.costs_that;
         passes = walk.passes;
         none_twice = record { at_most_once = at_most };
-        few = at_most_all net.stations xs (λ s. let one = at_most s in let t = there within chain s in grind (arith, nat_tests));
+        few =
+            let among = at_most_counted (λ s. nat_lt s net.stations) xs net.stations (λ s. let one = at_most s in let t = there within chain s in grind (arith, nat_tests))
+            (λ s late. let t = there within chain s in grind arith) in
+            omega (arith, among, counted_few (λ s. nat_lt s net.stations) net.stations);
       }
 
   -- where some height rises from each predecessor to the station after it, one leads to each station below FAR

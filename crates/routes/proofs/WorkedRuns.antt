@@ -1,7 +1,7 @@
 -- The six stations are what the theorems speak of: their links are sound, the worked rows right, and the steps those of whole runs.
 use Rattle.std.proofs.Common.{Option, is_some, is_none, nat_le, None, append_assoc, ◌≡◌, ◌≢◌, ℕ, ◌<◌, Bool, true, false, not, ◌&&◌, ◌||◌, ◌==◌, nat_lt, ⊎_elim, List, [], ◌∷◌, ◌++◌, Some, refl, ap, subst, sym, arith, rules}
 use Rattle.std.specs.List.{fold, Contains, list_all, range_with_len}
-use Rattle.std.proofs.lemmas.Bool.{cases_eq, leb-true, and_parts}
+use Rattle.std.proofs.lemmas.Bool.{cases_eq, leb-true, and_parts, ne_eqb}
 use Rattle.std.proofs.lemmas.Bool.Decides.{nat_tests}
 use Rattle.std.proofs.lemmas.List.{append-nil}
 use Rattle.std.proofs.lemmas.List.Elements.{All-contains}
@@ -17,7 +17,7 @@ use Rattle.routes.specs.Fails.{fails, wrong_source, wrong_reach, unlinked, loose
 use Rattle.routes.specs.Task.{Task, Workable, RowsRight}
 use Rattle.routes.specs.State.{State}
 use Rattle.routes.specs.Runs.{followed, Reached, Run, start, next}
-use Rattle.routes.specs.Six.{six, row_of_zero, row_of_two, both_worked, to_work, after}
+use Rattle.routes.specs.Six.{six, row_of_zero, row_of_two, two_worked, both_worked, to_work, after}
 use Rattle.routes.specs.declared.method.Method.{Method}
 use Rattle.routes.specs.declared.method.Method.TheVariants.{Plain, Reuse, Prune}
 use Rattle.routes.proofs.Costs.{zero_least_from_strict}
@@ -77,28 +77,34 @@ row_right A row there all =
 pub rows_right : Right sum_kind six 0 row_of_zero × Right sum_kind six 2 row_of_two
 rows_right = (row_right 0 row_of_zero (omega arith) refl, row_right 2 row_of_two (omega arith) refl)
 
--- as which they are worked
-read_right : (t : ℕ) (row found : Row Sum) (A : ℕ) → t ≡ A → both_worked A ≡ Some found → Right sum_kind six A found → both_worked t ≡ Some row → Right sum_kind six t row
-read_right t row found A same at right is =
-    let one : found ≡ row = cc (at, is, ap both_worked same) in
+-- a worked row is one of these
+read_right : (rows : ℕ → Option (Row Sum)) (t A : ℕ) (row found : Row Sum) → t ≡ A → rows A ≡ Some found → Right sum_kind six A found → rows t ≡ Some row → Right sum_kind six t row
+read_right rows t A row found same at right is =
+    let one : found ≡ row = cc (at, is, ap rows same) in
     subst (λ (u : ℕ). Right sum_kind six u row) (sym same) (subst (λ (r : Row Sum). Right sum_kind six A r) one right)
 
-worked_right : (t : ℕ) (row : Row Sum) → both_worked t ≡ Some row → Right sum_kind six t row
-worked_right t row is =
+two_read : (t : ℕ) (row : Row Sum) → two_worked t ≡ Some row → Right sum_kind six t row
+two_read t row is =
     ⊎_elim
-    (λ (zero : t ≡ 0). read_right t row row_of_zero 0 zero refl rows_right.0 is)
-    (λ (more : t ≢ 0).
-    ⊎_elim
-    (λ (two : t ≡ 2). read_right t row row_of_two 2 two refl rows_right.1 is)
+    (λ (two : t ≡ 2). read_right two_worked t 2 row row_of_two two refl rows_right.1 is)
     (λ (other : t ≢ 2). absurd (grind (arith, nat_tests)))
-    (cases_eq t 2))
+    (cases_eq t 2)
+
+both_read : (t : ℕ) (row : Row Sum) → both_worked t ≡ Some row → Right sum_kind six t row
+both_read t row is =
+    ⊎_elim
+    (λ (first : t ≡ 0). read_right both_worked t 0 row row_of_zero first refl rows_right.0 is)
+    (λ (other : t ≢ 0). two_read t row (rw (ne_eqb t 0 other) at is))
     (cases_eq t 0)
 
-pub rows_sound : (method : Method) (xs : List ℕ) → RowsRight sum_kind (to_work method both_worked) xs
-rows_sound method xs = record { right = λ t row on_it is. worked_right t row is }
+pub two_sound : (method : Method) (xs : List ℕ) → RowsRight sum_kind (to_work method two_worked) xs
+two_sound method xs = record { right = λ t row on_it. two_read t row }
 
-pub source_sound : (method : Method) → Workable (to_work method both_worked)
-source_sound method = record { source_there = omega arith; between = six_between }
+pub both_sound : (method : Method) (xs : List ℕ) → RowsRight sum_kind (to_work method both_worked) xs
+both_sound method xs = record { right = λ t row on_it. both_read t row }
+
+pub source_sound : (method : Method) (rows : ℕ → Option (Row Sum)) → Workable (to_work method rows)
+source_sound method rows = record { source_there = omega arith; between = six_between }
 
 -- whether a station may be taken, and whether stations may be taken one after the other until nobody waits: as tests of the six
 abbrev may_wait_behind : Option ℕ → Option ℕ → Bool
@@ -112,13 +118,13 @@ abbrev may_take_all : Task Sum → State Sum → List ℕ → Bool
 may_take_all task s [] = list_all (λ v. is_none (s.queue.ranks v)) (range_with_len 0 6)
 may_take_all task s (t ∷ ts) = may_take s t && may_take_all task (followed sum_kind task s t) ts
 
-module _ (method : Method) where
+module _ (method : Method) (rows : ℕ → Option (Row Sum)) where
   abbrev task : Task Sum
-  task = to_work method both_worked
+  task = to_work method rows
 
   -- only the six wait
   six_wait : {xs : List ℕ} {s : State Sum} → Reached sum_kind task xs s → (v : ℕ) → is_some (s.queue.ranks v) ≡ true → v < 6
-  six_wait reached v waits = ((reached_standing sum_laws (zero_least_from_strict sum_laws sum_strict) (source_sound method) reached).1.waiting v waits).0
+  six_wait reached v waits = ((reached_standing sum_laws (zero_least_from_strict sum_laws sum_strict) (source_sound method rows) reached).1.waiting v waits).0
 
   lowest_of : {xs : List ℕ} {s : State Sum} → Reached sum_kind task xs s → (t : ℕ) (q : Option ℕ) → s.queue.ranks t ≡ q
       → (is_some q && list_all (λ v. may_wait_behind q (s.queue.ranks v)) (range_with_len 0 6)) ≡ true → Lowest s.queue t
@@ -148,13 +154,16 @@ module _ (method : Method) where
       (run_on ts (next reached (lowest_of reached t (s.queue.ranks t) refl parts.0)) parts.1)
 
 pub plain_run : Run sum_kind (to_work Plain both_worked) (0 ∷ 2 ∷ 1 ∷ 3 ∷ 4 ∷ []) (after (to_work Plain both_worked) (0 ∷ 2 ∷ 1 ∷ 3 ∷ 4 ∷ []))
-plain_run = run_on Plain (0 ∷ 2 ∷ 1 ∷ 3 ∷ 4 ∷ []) start refl
+plain_run = run_on Plain both_worked (0 ∷ 2 ∷ 1 ∷ 3 ∷ 4 ∷ []) start refl
 
 pub reuse_run : Run sum_kind (to_work Reuse both_worked) (0 ∷ []) (after (to_work Reuse both_worked) (0 ∷ []))
-reuse_run = run_on Reuse (0 ∷ []) start refl
+reuse_run = run_on Reuse both_worked (0 ∷ []) start refl
+
+pub along_two_run : Run sum_kind (to_work Reuse two_worked) (0 ∷ 2 ∷ 1 ∷ []) (after (to_work Reuse two_worked) (0 ∷ 2 ∷ 1 ∷ []))
+along_two_run = run_on Reuse two_worked (0 ∷ 2 ∷ 1 ∷ []) start refl
 
 pub prune_run : Run sum_kind (to_work Prune both_worked) (0 ∷ 2 ∷ 1 ∷ 3 ∷ 4 ∷ []) (after (to_work Prune both_worked) (0 ∷ 2 ∷ 1 ∷ 3 ∷ 4 ∷ []))
-prune_run = run_on Prune (0 ∷ 2 ∷ 1 ∷ 3 ∷ 4 ∷ []) start refl
+prune_run = run_on Prune both_worked (0 ∷ 2 ∷ 1 ∷ 3 ∷ 4 ∷ []) start refl
 
 -- what the contract wants
-pub ruleset worked_out = (links_sound, rows_right, source_sound, rows_sound, plain_run, reuse_run, prune_run)
+pub ruleset worked_out = (links_sound, rows_right, source_sound, two_sound, both_sound, plain_run, reuse_run, along_two_run, prune_run)

@@ -1,8 +1,9 @@
 // Six stations, by the definitions and by the rules.
-ghost use Rattle.std.specs.Prelude.{◌≡◌, ℕ, List, [], ◌∷◌};
+ghost use Rattle.std.specs.Prelude.{◌≡◌, ℕ, List, [], ◌∷◌, Option};
 ghost use Rattle.cost.specs.Sum.{sum_kind};
+ghost use Rattle.cost.specs.declared.sum.Sum.{Sum};
 ghost use Rattle.routes.specs.Network.{Between, OnePerPair, NoneFree};
-ghost use Rattle.routes.specs.Row.{Right};
+ghost use Rattle.routes.specs.Row.{Row, Right};
 ghost use Rattle.routes.specs.Task.{Workable, RowsRight};
 ghost use Rattle.routes.specs.Runs.{Run};
 ghost use Rattle.routes.specs.Six.{six, row_of_zero, row_of_two, two_worked, both_worked, to_work, after};
@@ -19,9 +20,11 @@ pub fn worked_network()
     ensures tight { computed_tight ≡ hand_tight }
     ensures links { Between six × OnePerPair six × NoneFree sum_kind six }
     ensures right { Right sum_kind six 0 row_of_zero × Right sum_kind six 2 row_of_two }
-    ensures source { (method : Method) → Workable (to_work method both_worked) }
-    ensures rows { (method : Method) (xs : List ℕ) → RowsRight sum_kind (to_work method both_worked) xs }
+    ensures source { (method : Method) (rows : ℕ → Option (Row Sum)) → Workable (to_work method rows) }
+    ensures two { (method : Method) (xs : List ℕ) → RowsRight sum_kind (to_work method two_worked) xs }
+    ensures both { (method : Method) (xs : List ℕ) → RowsRight sum_kind (to_work method both_worked) xs }
     ensures plain { Run sum_kind (to_work Plain both_worked) (0 ∷ 2 ∷ 1 ∷ 3 ∷ 4 ∷ []) (after (to_work Plain both_worked) (0 ∷ 2 ∷ 1 ∷ 3 ∷ 4 ∷ [])) }
     ensures reuse { Run sum_kind (to_work Reuse both_worked) (0 ∷ []) (after (to_work Reuse both_worked) (0 ∷ [])) }
+    ensures along_two { Run sum_kind (to_work Reuse two_worked) (0 ∷ 2 ∷ 1 ∷ []) (after (to_work Reuse two_worked) (0 ∷ 2 ∷ 1 ∷ [])) }
     ensures prune { Run sum_kind (to_work Prune both_worked) (0 ∷ 2 ∷ 1 ∷ 3 ∷ 4 ∷ []) (after (to_work Prune both_worked) (0 ∷ 2 ∷ 1 ∷ 3 ∷ 4 ∷ [])) }
 {}
