@@ -1,8 +1,9 @@
 -- A file longer than any plan is refused by its header or its length: the bytes past the longest plan change nothing.
-use Rattle.std.proofs.Common.{◌≡◌, ℕ, ◌+◌, ◌*◌, ◌<◌, ◌≤◌, Bool, false, cond, not, ◌||◌, eqb, ltb, List, length, get_or, take, Option, ap, ◌∙◌, ⊎_elim, arith, lit<}
+use Rattle.std.proofs.Common.{◌≡◌, ℕ, ◌+◌, ◌*◌, ◌<◌, ◌≤◌, Bool, false, cond, not, ◌||◌, eqb, ltb, List, length, get_or, take, None, Option, ap, ◌∙◌, ⊎_elim, arith, lit<}
 use Rattle.std.proofs.lemmas.Bool.Decides.{nat_tests}
 use Rattle.std.proofs.lemmas.List.{get_or-take, length-take-le, take_all}
 use Rattle.std.proofs.lemmas.Bool.{cases_lt, le-ltb}
+use Rattle.std.specs.Option.{option_or}
 use Rattle.filekind.specs.Format.{Format, split_format, sum_format}
 use Rattle.filekind.specs.Named.{kind_of}
 use Rattle.filekind.specs.Outside.{outside}
@@ -18,11 +19,12 @@ use Rattle.account.specs.Enough.{Enough, most_bytes}
 -- the refusal of a file with ten bytes or more, where the tests of its header fail or not, and its length fits or not
 abbrev refusal_by : Bool → Bool → Bool → Bool → Bool → Option Code → Option Code
 refusal_by mark version kind counts fits rest =
-    refused_if mark (bare 16)
+    option_or
+    (refused_if mark (bare 16)
     (refused_if version (bare 17)
     (refused_if kind (bare 18)
-    (refused_if counts (bare 19)
-    (refused_if (not fits) (bare 20) rest))))
+    (refused_if counts (bare 19) None))))
+    (refused_if (not fits) (bare 20) rest)
 
 -- where the length fits no counts, what follows that test changes nothing
 one_line : (mark version kind counts fits fits' : Bool) (rest rest' : Option Code) (text text' : List ℕ) → (counts ≡ false → fits ≡ false) → (counts ≡ false → fits' ≡ false) → refused_or (refusal_by mark version kind counts fits rest) text ≡ refused_or (refusal_by mark version kind counts fits' rest') text'

@@ -1,5 +1,5 @@
 -- Reading and writing undo each other.
-use Rattle.std.proofs.Common.{◌≡◌, ℕ, ◌+◌, ◌<◌, ◌≤◌, List, [], ◌∷◌, ◌++◌, map, length, drop, None, Option, sym, refl, ap, ◌∙◌, ap₂, arith, rules}
+use Rattle.std.proofs.Common.{◌≡◌, ℕ, ◌+◌, ◌*◌, ◌<◌, ◌≤◌, List, [], ◌∷◌, ◌++◌, map, length, drop, None, Option, sym, refl, ap, ◌∙◌, ap₂, arith, rules}
 use Rattle.std.proofs.ByRecursion.{All-weaker}
 use Rattle.std.proofs.lemmas.List.{length-map}
 use Rattle.std.proofs.lemmas.Bool.Decides.{nat_tests}
@@ -16,10 +16,10 @@ use Rattle.planfile.specs.RoundTrip.{FieldsFit, Holds, ReadsBack, Unambiguous}
 use Rattle.planfile.specs.Sound.{Laid, Sound}
 use Rattle.planfile.specs.Writing.{first_outside}
 use Rattle.planfile.specs.declared.fields.Fields.{Fields}
-use Rattle.planfile.proofs.FileBytes.{count_read_back, encoding_passes, records_read_back, stations_read_back}
+use Rattle.planfile.proofs.FileBytes.{count_read_back, encoding_passes, length-encoding, records_read_back, stations_read_back}
 use Rattle.planfile.proofs.HeaderTests.{left_to_records}
 use Rattle.planfile.proofs.RecordBytes.{length-records_of}
-use Rattle.planfile.proofs.Soundness.{laid_from_none, none_from_laid, passes_from_none}
+use Rattle.planfile.proofs.Soundness.{laid_from_none, none_from_laid, parts_from_none}
 use Rattle.planfile.proofs.WritingTests.{left_to_costs}
 
 -- what each record of a sound plan has by itself
@@ -48,7 +48,9 @@ accepted f n xs places byte far sound some few enough =
     let passes = encoding_passes f n xs places byte some few sound.some sound.few enough in
     let stations = stations_read_back f n xs (omega arith) in
     let records = records_read_back f n xs (omega arith) (all_fit f n xs far sound) in
-    rw (left_to_records f places (encoding f n xs) passes, stations, records, none_from_laid f n [] xs sound.laid)
+    let count = count_read_back f n xs (omega arith) in
+    let long : length (encoding f n xs) ≡ 10 + 12 * count_of (encoding f n xs) = omega (arith, length-encoding f n xs, count) in
+    rw (left_to_records f places (encoding f n xs) passes long, stations, records, none_from_laid f n [] xs sound.laid)
 
 module _ {K : Type 0} (m : Kind K) (formed : ℕ → Option K) (numbered : Forms m formed) where
   -- a link read from fields has those fields
@@ -62,9 +64,9 @@ module _ {K : Type 0} (m : Kind K) (formed : ℕ → Option K) (numbered : Forms
       let n = stations_of bs in
       let xs = file_records bs in
       let links = links_of m formed bs in
-      let p = passes_from_none f places bs none in
-      let passes = p.0 in
-      let laid = laid_from_none f n [] xs p.1 in
+      let parts = parts_from_none f places bs none in
+      let passes = parts.0 in
+      let laid = laid_from_none f n [] xs parts.2 in
       let all = in_range f n [] xs laid in
       let again = fields_again f r n ranged xs all in
       let counted = length-records_of (count_of bs) (drop 10 bs) in

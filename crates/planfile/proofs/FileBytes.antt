@@ -16,12 +16,12 @@ use Rattle.planfile.specs.declared.fields.Fields.{Fields}
 use Rattle.planfile.proofs.Codec.{Small, number_of_bytes}
 use Rattle.planfile.proofs.RecordBytes.{bytes_of_records, records_of_bytes, length-records, length-records_of, small_drop}
 
-module _ (f : Format) (places : ℕ) (bs : List ℕ) (passes : Passes f places bs) (small : Small bs) where
+module _ (f : Format) (places : ℕ) (bs : List ℕ) (passes : Passes f places bs) (long : length bs ≡ 10 + 12 * count_of bs) (small : Small bs) where
   -- a file whose header passes is the encoding of what it holds
   pub file_is_encoding : encoding f (stations_of bs) (file_records bs) ≡ bs
   file_is_encoding =
       let counted = length-records_of (count_of bs) (drop 10 bs) in
-      let records = bytes_of_records (count_of bs) (drop 10 bs) (simp length-drop (omega (arith, passes.long))) (small_drop 10 bs small) in
+      let records = bytes_of_records (count_of bs) (drop 10 bs) (simp length-drop (omega (arith, long))) (small_drop 10 bs small) in
       grind (arith, common_steps, small 5, small 6, small 7, small 8, small 9)
 
 -- an encoding reads back

@@ -2,9 +2,10 @@
 use Rattle.std.proofs.Common.{◌≡◌, ℕ, ◌+◌, ◌<◌, ◌≤◌, Bool, true, false, List, [], ◌∷◌, ◌++◌, map, length, get_or, take, drop, set, Some, None, sym, ◌∙◌, arith}
 use Rattle.std.proofs.lemmas.Grind.{common_steps}
 use Rattle.std.proofs.lemmas.List.{get_or-map}
+use Rattle.std.specs.Option.{option_or}
 use Rattle.filekind.specs.Format.{Format}
 use Rattle.refusal.specs.declared.Facts.{Facts}
-use Rattle.planfile.specs.Faults.{fault, first_fault, or_else}
+use Rattle.planfile.specs.Faults.{fault, first_fault}
 use Rattle.planfile.specs.Records.{first_fields}
 use Rattle.planfile.specs.declared.fields.Fields.{Fields}
 use Rattle.planfile.proofs.Seen.{Holds, place, holds_more, fault_seen, sound_low}
@@ -22,7 +23,7 @@ module _ {f : Format} {n i stations : ℕ} {rs : List (List ℕ)} {seen : List B
   parts = grind (arith, common_steps, get_or-map first_fields rs i [] x within)
 
   -- its fault comes before those of the records after it
-  split : or_else (fault f stations i (get_or seen (place x) false) x) (first_fault f n (take (i + 1) (map first_fields rs)) (drop (i + 1) (map first_fields rs))) ≡ first_fault f n [] (map first_fields rs)
+  split : option_or (fault f stations i (get_or seen (place x) false) x) (first_fault f n (take (i + 1) (map first_fields rs)) (drop (i + 1) (map first_fields rs))) ≡ first_fault f n [] (map first_fields rs)
   split = rw (so_far.of_plan, fault_seen f n i seen (take i (map first_fields rs)) x few so_far.table, parts.0) (rw (parts.1, parts.2) at so_far.rest)
 
   -- its fault is the first of all

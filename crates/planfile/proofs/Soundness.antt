@@ -1,13 +1,13 @@
 -- A file is accepted exactly when it holds a sound plan that the list has places for.
-use Rattle.std.proofs.Common.{◌≡◌, ℕ, Bool, true, false, List, [], ◌∷◌, ◌++◌, Some, None, Option, refl, arith}
+use Rattle.std.proofs.Common.{◌≡◌, ℕ, ◌+◌, ◌*◌, Bool, true, false, List, [], ◌∷◌, ◌++◌, Some, None, Option, length, refl, arith}
 use Rattle.std.proofs.lemmas.Bool.Decides.{nat_tests}
-use Rattle.std.specs.Option.{option_map}
+use Rattle.std.specs.Option.{option_map, option_or}
 use Rattle.std.specs.List.{AllByRecursion}
 use Rattle.filekind.specs.Format.{Format}
 use Rattle.refusal.specs.First.{refused_if}
 use Rattle.planfile.specs.Faults.{first_fault, repeats}
 use Rattle.planfile.specs.Header.{Passes}
-use Rattle.planfile.specs.Reading.{reading_refusal, faulty_record, file_records, stations_of}
+use Rattle.planfile.specs.Reading.{count_of, header_refusal, reading_refusal, faulty_record, file_records, stations_of}
 use Rattle.planfile.specs.Sound.{Differs, Laid}
 use Rattle.planfile.specs.declared.fields.Fields.{Fields}
 
@@ -21,9 +21,19 @@ none_of_mapped : {A B : Type 0} (g : A → B) (o : Option A) → option_map g o 
 none_of_mapped g None e = refl
 none_of_mapped g (Some x) e = cc
 
--- a file that is not refused passes each test, and its records have no fault
-pub passes_from_none : (f : Format) (places : ℕ) (bs : List ℕ) → reading_refusal f places bs ≡ None → Passes f places bs × (first_fault f (stations_of bs) [] (file_records bs) ≡ None)
-passes_from_none f places bs e = grind (arith, nat_tests, not_refused, none_of_mapped faulty_record)
+-- of two options the first that has a value is none only where both are
+none_of_either : {A : Type 0} (o p : Option A) → option_or o p ≡ None → (o ≡ None) × (p ≡ None)
+none_of_either None p e = (refl, e)
+none_of_either (Some x) p e = absurd cc
+
+-- a header that is not refused passes each test
+pub passes_from_none : (f : Format) (places : ℕ) (bs : List ℕ) → header_refusal f places bs ≡ None → Passes f places bs
+passes_from_none f places bs e = grind (arith, nat_tests, not_refused)
+
+-- a file that is not refused passes the header's tests, is as long as its counts require, and its records have no fault
+pub parts_from_none : (f : Format) (places : ℕ) (bs : List ℕ) → reading_refusal f places bs ≡ None
+    → Passes f places bs × (length bs ≡ 10 + 12 * count_of bs) × (first_fault f (stations_of bs) [] (file_records bs) ≡ None)
+parts_from_none f places bs e = grind (arith, nat_tests, not_refused, none_of_either, none_of_mapped faulty_record, passes_from_none f places bs)
 
 -- a record whose pair is not repeated differs from each of those before it
 differs_from_none : (earlier : List Fields) (x : Fields) → repeats earlier x ≡ false → AllByRecursion (λ y. Differs y x) earlier

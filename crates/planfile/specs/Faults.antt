@@ -3,7 +3,8 @@
 --   repeats earlier x            the pair of x stands in an earlier record
 --   fault f n k again x          the first fault of record k on a plan of n stations, its pair being there already or not
 --   first_fault f n earlier xs   the first fault of the records xs, which follow the records earlier
-use Rattle.std.specs.Prelude.{ℕ, Bool, false, ◌&&◌, ◌||◌, List, [], ◌∷◌, ◌++◌, length, Some, None, Option, ◌==◌, nat_le}
+use Rattle.std.specs.Prelude.{ℕ, Bool, false, ◌&&◌, ◌||◌, List, [], ◌∷◌, ◌++◌, length, None, Option, ◌==◌, nat_le}
+use Rattle.std.specs.Option.{option_or}
 use Rattle.filekind.specs.Format.{Format}
 use Rattle.filekind.specs.Outside.{outside}
 use Rattle.refusal.specs.First.{refused_if}
@@ -23,10 +24,6 @@ fault f n k again x =
     (refused_if (x.from == x.to) (Below k 4 layer.Record)
     (refused_if again (Below k 6 layer.Record) None)))
 
-abbrev pub or_else : {A : Type 0} → Option A → Option A → Option A
-or_else None o = o
-or_else (Some x) o = Some x
-
 abbrev pub first_fault : Format → ℕ → List Fields → List Fields → Option Facts
 first_fault f n earlier [] = None
-first_fault f n earlier (x ∷ xs) = or_else (fault f n (length earlier) (repeats earlier x) x) (first_fault f n (earlier ++ x ∷ []) xs)
+first_fault f n earlier (x ∷ xs) = option_or (fault f n (length earlier) (repeats earlier x) x) (first_fault f n (earlier ++ x ∷ []) xs)

@@ -1,8 +1,7 @@
--- A header that passes every test, in a list of so many places: what the tests of reading come to, one by one.
+-- A header that passes every test, in a list of so many places: what its tests come to, one by one.
 --
---   Passes f places bs    places and counts in their ranges, mark, version and kind byte as they should be, and the length
---                         that the counts require
-use Rattle.std.specs.Prelude.{◌≡◌, ℕ, ◌+◌, ◌*◌, ◌≤◌, List, length, slice_index_or}
+--   Passes f places bs    places and counts in their ranges, and mark, version and kind byte as they should be
+use Rattle.std.specs.Prelude.{◌≡◌, ℕ, ◌≤◌, List, length, slice_index_or}
 use Rattle.filekind.specs.Format.{Format}
 use Rattle.planfile.specs.Bytes.{number_at}
 use Rattle.planfile.specs.Reading.{count_of, stations_of}
@@ -19,4 +18,3 @@ pub record Passes (f : Format) (places : ℕ) (bs : List ℕ) : Type 0 where
   pub some_stations : 1 ≤ stations_of bs
   pub few_stations : stations_of bs ≤ 256
   pub enough_places : count_of bs ≤ places
-  pub long : length bs ≡ 10 + 12 * count_of bs

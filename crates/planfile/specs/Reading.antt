@@ -5,9 +5,10 @@
 --   links_of m formed bs               the links of the records
 --   file_records bs                    the fields of the records that a file counts
 --   marked bs                          the file begins with the mark
+--   header_refusal f places bs         the first refusal that fits the header of a file, for a list of so many places
 --   reading_refusal f places bs        the first refusal that fits a file read into a list of so many places
-use Rattle.std.specs.Prelude.{ℕ, ◌+◌, ◌*◌, Bool, not, ◌&&◌, ◌||◌, List, [], map, length, drop, Option, ◌==◌, nat_lt, slice_index}
-use Rattle.std.specs.Option.{option_map}
+use Rattle.std.specs.Prelude.{ℕ, ◌+◌, ◌*◌, Bool, not, ◌&&◌, ◌||◌, List, [], map, length, drop, None, Option, ◌==◌, nat_lt, slice_index}
+use Rattle.std.specs.Option.{option_map, option_or}
 use Rattle.cost.specs.Kind.{Kind}
 use Rattle.cost.specs.declared.link.Link.{Link}
 use Rattle.filekind.specs.Format.{Format}
@@ -43,13 +44,17 @@ marked bs = slice_index bs 0 == 67 && (slice_index bs 1 == 80 && slice_index bs 
 abbrev pub faulty_record : Facts → Code
 faulty_record facts = record { number = 22; facts = facts }
 
-abbrev pub reading_refusal : Format → ℕ → List ℕ → Option Code
-reading_refusal f places bs =
+abbrev pub header_refusal : Format → ℕ → List ℕ → Option Code
+header_refusal f places bs =
     refused_if (outside 1 4096 places) (bare 2)
     (refused_if (nat_lt (length bs) 10) (bare 15)
     (refused_if (not (marked bs)) (bare 16)
     (refused_if (not (number_at 2 bs 3 == 1)) (bare 17)
     (refused_if (not (slice_index bs 5 == f.byte)) (bare 18)
-    (refused_if (outside 1 256 (stations_of bs) || nat_lt places (count_of bs)) (bare 19)
+    (refused_if (outside 1 256 (stations_of bs) || nat_lt places (count_of bs)) (bare 19) None)))))
+
+abbrev pub reading_refusal : Format → ℕ → List ℕ → Option Code
+reading_refusal f places bs =
+    option_or (header_refusal f places bs)
     (refused_if (not (length bs == 10 + 12 * count_of bs)) (bare 20)
-    (option_map faulty_record (first_fault f (stations_of bs) [] (file_records bs)))))))))
+    (option_map faulty_record (first_fault f (stations_of bs) [] (file_records bs))))

@@ -14,5 +14,6 @@ mod writing;
 
 pub use counts::Counts;
 pub use fields::Fields;
+pub use header::read_counts;
 pub use reading::read;
 pub use writing::write;

@@ -24,6 +24,8 @@ pub fn read<K: FileKind>(bytes: &[u8], list: &mut [Link<K>]) -> Result<Counts, R
     ensures refused { told result ≡ reading_refusal K.FileKind.format (length list.old) bytes.now }
     ensures value { IfOk result (λ c. c ≡ counts_of bytes.now) }
     ensures after { list.new ≡ (if is_ok result then fronted (links_of K.Cost.kind K.Cost.formed bytes.now) list.old else list.old) }
+    ensures long { length list.new ≡ length list.old }
+    ensures fits { IfOk result (λ c. c.links ≤ length list.old) }
     ensures holds { IfOk result (λ c. Holds K.Cost.kind K.FileKind.format c.stations (take c.links list.new) bytes.now) }
     ensures accepts { Accepts K.FileKind.format (length list.old) bytes.now (is_ok result) }
 {

@@ -7,7 +7,7 @@
 use Rattle.std.specs.Prelude.{ℕ}
 use Rattle.refusal.specs.declared.Code.{Code}
 use Rattle.refusal.specs.declared.Facts.{Facts}
-use Rattle.refusal.specs.declared.Facts.TheVariants.{Bare, AtRecord, Below}
+use Rattle.refusal.specs.declared.Facts.TheVariants.{Bare, AtStation, AtRecord, Below}
 use Rattle.refusal.specs.declared.FieldFault.{FieldFault}
 use Rattle.refusal.specs.declared.Layer.TheVariants as layer
 use Rattle.refusal.specs.declared.RecordFault.{RecordFault}
@@ -31,7 +31,17 @@ abbrev pub code_of : Refusal → Code
 code_of refusal.StationCount = bare 1
 code_of refusal.Places = bare 2
 code_of refusal.NoStation = bare 3
+code_of refusal.SelfLink = bare 4
+code_of refusal.LinkCost = bare 5
+code_of refusal.Repeated = bare 6
+code_of refusal.Full = bare 7
+code_of refusal.NoLink = bare 8
+code_of refusal.Worked = bare 9
+code_of refusal.Unworked = bare 10
+code_of refusal.Far = bare 11
 code_of refusal.ShortBuffer = bare 12
+code_of refusal.RowLength = bare 13
+code_of (refusal.Row f) = record { number = 14; facts = AtStation f }
 code_of refusal.ShortHeader = bare 15
 code_of refusal.Mark = bare 16
 code_of refusal.Version = bare 17

@@ -34,13 +34,30 @@ pub enum RecordFault {
     Repeated { index: u16 },
 }
 
+// A station of a supplier's row that fails, and the number of a cause by which it does.
+#[derive(Clone, Copy, PartialEq, Eq, Debug)]
+pub struct Failing {
+    pub station: u16,
+    pub cause: u8,
+}
+
 // Why a call was refused.
 #[derive(Clone, Copy, PartialEq, Eq, Debug)]
 pub enum Refusal {
     StationCount,
     Places,
     NoStation,
+    SelfLink,
+    LinkCost,
+    Repeated,
+    Full,
+    NoLink,
+    Worked,
+    Unworked,
+    Far,
     ShortBuffer,
+    RowLength,
+    Row(Failing),
     ShortHeader,
     Mark,
     Version,
@@ -56,6 +73,7 @@ pub enum Refusal {
 #[derive(Clone, Copy, PartialEq, Eq, Debug)]
 pub enum Facts {
     Bare,
+    AtStation(Failing),
     AtRecord(u16),
     Below {
         index: u16,
@@ -145,7 +163,20 @@ impl Refusal {
             Refusal::StationCount => bare(1),
             Refusal::Places => bare(2),
             Refusal::NoStation => bare(3),
+            Refusal::SelfLink => bare(4),
+            Refusal::LinkCost => bare(5),
+            Refusal::Repeated => bare(6),
+            Refusal::Full => bare(7),
+            Refusal::NoLink => bare(8),
+            Refusal::Worked => bare(9),
+            Refusal::Unworked => bare(10),
+            Refusal::Far => bare(11),
             Refusal::ShortBuffer => bare(12),
+            Refusal::RowLength => bare(13),
+            Refusal::Row(failing) => Code {
+                number: 14,
+                facts: Facts::AtStation(failing),
+            },
             Refusal::ShortHeader => bare(15),
             Refusal::Mark => bare(16),
             Refusal::Version => bare(17),
@@ -165,7 +196,7 @@ impl Refusal {
     }
 }
 
-// As it stands in a line: the number, then what it names of a record, divided by blanks.
+// As it stands in a line: the number, then what it names of a station or a record, divided by blanks.
 impl fmt::Display for Code {
     ghost output = { λ c. Some (code_text c) };
 
@@ -173,6 +204,7 @@ impl fmt::Display for Code {
         let Code { number, facts } = *self;
         match facts {
             Facts::Bare => write!(f, "{number}"),
+            Facts::AtStation(Failing { station, cause }) => write!(f, "{number} {station} {cause}"),
             Facts::AtRecord(index) => write!(f, "{number} {index}"),
             Facts::Below {
                 index,

@@ -13,7 +13,7 @@ use Rattle.routes.specs.Row.{Row, Right}
 use Rattle.routes.specs.Task.{Task, RowsRight}
 use Rattle.routes.specs.State.{State}
 use Rattle.routes.specs.Offers.{Offer}
-use Rattle.routes.specs.Methods.{tight, prune, first_through, row_of, guided}
+use Rattle.routes.specs.Methods.{tight, prune, first_through, guiding, guided}
 use Rattle.routes.specs.declared.method.Method.TheVariants.{Prune}
 use Rattle.routes.proofs.Costs.{same_left, at_most_far, far_behind}
 use Rattle.routes.proofs.JoinedWalks.{goes_on_to, along, costs_from_last, costs_same, walk_costs}
@@ -95,7 +95,7 @@ module _ {K : Type 0} {m : Kind K} (laws : Laws m) (strict : Strict m) (task : T
     -- so with those that are tight
     module _ (rows_right : RowsRight m task (xs ++ t ∷ [])) (pruned : task.method ≡ Prune) where
       abbrev guide : Option (Row K)
-      guide = if t == task.source then None else row_of m task s t (s.firsts t)
+      guide = if t == task.source then None else guiding task.rows (s.firsts t)
 
       -- the first station on the way to t leads on
       through_source : (t ≡ task.source) → (l : Link K) → Contains task.network.links l → l.from ≡ t → Through m task (xs ++ t ∷ []) (first_through m task s t l.to) l.to (m.joined (s.row.costs t) l.cost)
@@ -134,11 +134,11 @@ module _ {K : Type 0} {m : Kind K} (laws : Laws m) (strict : Strict m) (task : T
 
       firsts_over : (o : Offer K) → Contains (prune m task s t) o → Through m task (xs ++ t ∷ []) o.first o.station o.cost
       firsts_over =
-          each_over m s t task.network (first_through m task s t) (guided m task s t guide) (λ o. Through m task (xs ++ t ∷ []) o.first o.station o.cost)
+          each_over m s t task.network (first_through m task s t) (guided m guide) (λ o. Through m task (xs ++ t ∷ []) o.first o.station o.cost)
           (λ l laid from. ⊎_elim (λ e. through_source e l laid from) (λ ne. through_other ne l laid from) (cases_eq t task.source))
 
       -- and what is not tight in its row is not missed
-      skips : (l : Link K) → Contains task.network.links l → l.from ≡ t → (r : Option (Row K)) → guide ≡ r → guided m task s t r l ≡ false
+      skips : (l : Link K) → Contains task.network.links l → l.from ≡ t → (r : Option (Row K)) → guide ≡ r → guided m r l ≡ false
           → Same m (m.joined (s.row.costs t) l.cost) m.far ⊎ Cheaper m task l.to (m.joined (s.row.costs t) l.cost)
       skips l laid from None is loose = absurd (true≢false loose)
       skips l laid from (Some row) is loose =
@@ -146,18 +146,18 @@ module _ {K : Type 0} {m : Kind K} (laws : Laws m) (strict : Strict m) (task : T
           (λ (e : t ≡ task.source). let none : None ≡ Some row = rw (eq-eqb t task.source e) at is in absurd (cc none))
           (λ (ne : t ≢ task.source).
           let by = labels.firsts pruned t ne t_below in
-          let found : row_of m task s t (s.firsts t) ≡ Some row = rw (ne_eqb t task.source ne) at is in
+          let found : guiding task.rows (s.firsts t) ≡ Some row = rw (ne_eqb t task.source ne) at is in
           let worked : task.rows by.link.to ≡ Some row = rw by.is at found in
           skipped by row (rows_right.right by.link.to row (known_now by.known) worked) l laid from loose)
           (cases_eq t task.source)
 
       pub fair_prune : Fair m task xs s t (prune m task s t)
       fair_prune = record {
-        given = λ o has below. given_over laws task xs s t walk (first_through m task s t) (guided m task s t guide) o has;
+        given = λ o has below. given_over laws task xs s t walk (first_through m task s t) (guided m guide) o has;
         firsts = λ p o has below. firsts_over o has;
         covers = λ l laid from. ⊎_elim
-            (λ picked. inl (covers_over laws task xs s t walk (first_through m task s t) (guided m task s t guide) l laid from picked))
+            (λ picked. inl (covers_over laws task xs s t walk (first_through m task s t) (guided m guide) l laid from picked))
             (λ loose. inr (skips l laid from guide refl loose))
-            (cases_Bool (guided m task s t guide l));
-        goes_on = λ o has put. absurd (true≢false (sym (all_put laws task xs s t walk (first_through m task s t) (guided m task s t guide) o has) ∙ put));
+            (cases_Bool (guided m guide l));
+        goes_on = λ o has put. absurd (true≢false (sym (all_put laws task xs s t walk (first_through m task s t) (guided m guide) o has) ∙ put));
       }

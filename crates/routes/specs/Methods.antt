@@ -2,13 +2,14 @@
 --
 --   links_from net t pick    the links that leave t and are picked, in list order
 --   tight m row l            the row's cost of where l begins, joined with l, equals its cost of where l ends, which is not FAR
+--   guiding rows first       the row of a first station, if there is one and its row is worked
+--   guided                   whether a link is tight in a row, if there is one; else any link is followed
 --   over_links               t's label joined with each of the links given, for the station where it ends
 --   along_row                t's label joined with each cost of row t, with row t's predecessors, for all stations in order; it puts none
 --   plain                    over all links from t
 --   reuse                    along row t where that is worked, else plain
 --   prune                    where t is not the source, and the row of its first station after the source is worked, over the links from t
 --                            that are tight in that row; else over all
---   guided                   whether a link is tight in a row, if there is one; else any link is followed
 --   offers m task s t        what t offers in state s by the task's method
 use Rattle.std.specs.Prelude.{ℕ, Bool, true, false, not, ◌&&◌, ◌==◌, List, map, Option, Some, None, if◌then◌else◌}
 use Rattle.std.specs.List.{filter, range_with_len}
@@ -25,9 +26,17 @@ use Rattle.routes.specs.declared.method.Method.TheVariants.{Plain, Reuse, Prune}
 abbrev pub links_from : {K : Type 0} → Network K → ℕ → (Link K → Bool) → List (Link K)
 links_from net t pick = filter (λ l. l.from == t && pick l) net.links
 
+abbrev pub guiding : {K : Type 0} → (ℕ → Option (Row K)) → Option ℕ → Option (Row K)
+guiding rows None = None
+guiding rows (Some w) = rows w
+
 module _ {K : Type 0} (m : Kind K) where
   abbrev pub tight : Row K → Link K → Bool
   tight row l = m.rank (m.joined (row.costs l.from) l.cost) == m.rank (row.costs l.to) && not (m.rank (row.costs l.to) == FAR)
+
+  abbrev pub guided : Option (Row K) → Link K → Bool
+  guided None l = true
+  guided (Some row) l = tight row l
 
   abbrev pub over_links : State K → ℕ → (ℕ → Option ℕ) → List (Link K) → List (Offer K)
   over_links s t first links =
@@ -61,17 +70,8 @@ module _ {K : Type 0} (m : Kind K) where
     abbrev pub first_through : ℕ → Option ℕ
     first_through v = if t == task.source then Some v else s.firsts t
 
-    -- the worked row of a first station, if any
-    abbrev pub row_of : Option ℕ → Option (Row K)
-    row_of None = None
-    row_of (Some w) = task.rows w
-
-    abbrev pub guided : Option (Row K) → Link K → Bool
-    guided None l = true
-    guided (Some row) l = tight row l
-
     abbrev pub prune : List (Offer K)
-    prune = over_links s t first_through (links_from task.network t (guided (if t == task.source then None else row_of (s.firsts t))))
+    prune = over_links s t first_through (links_from task.network t (guided (if t == task.source then None else guiding task.rows (s.firsts t))))
 
     abbrev pub by_method : Method → List (Offer K)
     by_method Plain = plain

@@ -5,4 +5,4 @@ use Rattle.planfile.proofs.reading.inspect.Goals as goal
 pub returns-clause-encoded : goal.returns-clause-encoded
 returns-clause-encoded g c =
     let head = c.in_ok-counts.ensures in
-    rw head.stations (file_is_encoding g.K.FileKind.format c.args.places c.args.bytes.now head.passes (λ i. (c.type_inv.bytes i).fits))
+    rw head.stations (file_is_encoding g.K.FileKind.format c.args.places c.args.bytes.now head.passes head.long (λ i. (c.type_inv.bytes i).fits))
