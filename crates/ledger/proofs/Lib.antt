@@ -1,0 +1,9 @@
+pub mod FairKept
+pub mod Entered
+pub mod Since
+pub mod Stood
+pub mod Linked
+pub mod Reworked
+pub mod TracedChains
+pub mod Asked
+pub mod Calls

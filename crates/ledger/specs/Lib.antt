@@ -1,0 +1,17 @@
+pub mod Ledger
+pub mod Refusals
+pub mod After
+pub mod View
+pub mod Fair
+pub mod Log
+pub mod Commissioned
+pub mod Marks
+pub mod Holds
+pub mod Stands
+pub mod Traced
+pub mod Worked
+pub mod Answers
+pub mod RouteAnswer
+pub mod CheckAnswer
+pub mod Effects
+pub mod Logged
