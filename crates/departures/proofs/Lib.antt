@@ -1,0 +1,2 @@
+pub mod Fronts
+pub mod Threads
