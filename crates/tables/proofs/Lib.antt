@@ -1,0 +1,17 @@
+pub mod Cells
+pub mod Accepted
+pub mod Keeping
+pub mod Along
+pub mod Thread
+pub mod Offering
+pub mod Filling
+pub mod Running
+pub mod Filled
+pub mod Tracing
+pub mod Unmarked
+pub mod Clearing
+pub mod ReadLinks
+pub mod Finding
+pub mod Moved
+pub mod Unworking
+pub mod Changed

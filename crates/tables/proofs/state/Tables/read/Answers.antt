@@ -1,0 +1,13 @@
+-- The links stand at the list's start, and run between the stations.
+use Rattle.std.proofs.Common.{ap, rules}
+use Rattle.tables.proofs.ReadLinks.{file_read, front_between}
+use Rattle.tables.proofs.state.Tables.read.Goals as goal
+
+pub commission-requires-clause-between : goal.commission-requires-clause-between
+commission-requires-clause-between g c = front_between g.K.Cost.kind g.K.FileKind.format c.read.new.self.cells.now c.in-Ok.ensures.holds.sound (search rules)
+
+pub returns-in-Ok-clause-read : goal.returns-in-Ok-clause-read
+returns-in-Ok-clause-read g c =
+    let told = c.in-Ok.ensures in
+    let left = c.commission.ensures in
+    file_read g.K.Cost.kind g.K.Cost.formed c.args.bytes.now c.args.self.now c.commission.new.self (ap (λ x. x.stations) told.value) (ap (λ x. x.links) told.value) told.after told.long left.ledger left.list left.costs left.predecessors
