@@ -1,0 +1,4 @@
+pub mod SoundLinks
+pub mod KeptApart
+pub mod Again
+pub mod Commissioned

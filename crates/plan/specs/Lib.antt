@@ -1,0 +1,3 @@
+pub mod View
+pub mod Apart
+pub mod Again

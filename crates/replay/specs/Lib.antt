@@ -1,0 +1,6 @@
+pub mod Entries
+pub mod Pool
+pub mod Moment
+pub mod Says
+pub mod Leaves
+pub mod Replayed
