@@ -1,0 +1,4 @@
+pub mod Ranges
+pub mod WorkedRows
+pub mod ListedPairs
+pub mod Overlong

@@ -1,0 +1,4 @@
+pub mod AllRows
+pub mod Lines
+pub mod Report
+pub mod Enough

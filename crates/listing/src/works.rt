@@ -1,0 +1,26 @@
+// All rows of a plan, worked one after the other.
+ghost use Rattle.std.specs.Prelude.{◌≡◌, ℕ, ◌<◌, ◌++◌, true, List};
+ghost use Rattle.cost.specs.Kind.{Kind};
+ghost use Rattle.ledger.specs.Ledger.{Ledger, network};
+ghost use Rattle.ledger.specs.Log.{Entry};
+ghost use Rattle.ledger.specs.Logged.{Reckoned};
+ghost use Rattle.ledger.specs.Stands.{Stands};
+ghost use Rattle.plan.specs.View.{view};
+ghost use Rattle.listing.specs.AllRows.{works};
+
+use cost::Cost;
+use plan::Plan;
+use queue::Queue;
+use routes::Method;
+
+// Works each row in row order; that of a worked row is refused, and changes nothing.
+pub fn work_all<K: Cost, Q: Queue>(plan: &mut Plan<K>, method: Method, queue: &mut Q)
+    ensures logged { (start : Ledger K) (log : List (Entry K)) → Stands K.Cost.kind start log (view K.Cost.kind plan.old) → Stands K.Cost.kind start (log ++ works (view K.Cost.kind plan.old).ledger.stations method) (view K.Cost.kind plan.new) }
+    ensures marked { Reckoned K.Cost.kind (view K.Cost.kind plan.old) (λ g. (a : ℕ) → a < g.stations → (view K.Cost.kind plan.new).ledger.marked a ≡ true) }
+    ensures network { Reckoned K.Cost.kind (view K.Cost.kind plan.old) (λ g. network (view K.Cost.kind plan.new).ledger ≡ network g) }
+{
+    for source in 0..plan.counts().stations {
+        // refused where the row is worked
+        let _ = plan.work(source, method, queue);
+    }
+}
