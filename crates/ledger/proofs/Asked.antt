@@ -23,6 +23,7 @@ use Rattle.ledger.specs.Answers.{CostAnswer}
 use Rattle.ledger.specs.RouteAnswer.{route_refusal, RouteAnswer}
 use Rattle.ledger.specs.CheckAnswer.{Faulty, CheckAnswer}
 use Rattle.ledger.specs.Effects.{way, CostEffect, RouteEffect, CheckEffect}
+use Rattle.ledger.proofs.FairKept.{one_per_pair}
 use Rattle.ledger.proofs.Stood.{stands_still}
 use Rattle.ledger.proofs.TracedChains.{traced_route}
 
@@ -87,7 +88,7 @@ module _ {K : Type 0} {m : Kind K} (laws : Laws m) (strict : Strict m) {v : View
 
     none_faulty : Right m (network v.ledger) a (given m costs predecessors) → (why : Refusal) → Faulty m v.ledger a costs predecessors why → ⊥
     none_faulty right why f =
-        let none = right_passes laws (zero_least_from_strict laws strict) holds.fair.between holds.fair.one_per_pair there right in
+        let none = right_passes laws (zero_least_from_strict laws strict) holds.fair.between (one_per_pair (network v.ledger) holds.fair.pairs) there right in
         true≢false (sym f.by_cause ∙ none.passes f.failing.station f.failing.cause f.station)
 
   row_tested : {T : Type 0} (r : Result T Refusal) (o : Option Code) → check_refusal v.ledger a costs predecessors ≡ o

@@ -9,7 +9,7 @@ use Rattle.ledger.specs.Ledger.{Ledger}
 use Rattle.ledger.specs.Refusals.{lay_refusal, lift_refusal, work_refusal}
 use Rattle.ledger.specs.After.{after_lay, after_lift, after_work}
 use Rattle.ledger.specs.Log.{Entry, lay, lift, work, cost, route, check, unless, entered, reckon}
-use Rattle.ledger.specs.Commissioned.{Commissioned}
+use Rattle.ledger.specs.Starts.{Starts}
 use Rattle.ledger.specs.Marks.{Clears, WorkedSince}
 use Rattle.ledger.proofs.Entered.{unless_none, reckon_on}
 
@@ -107,10 +107,10 @@ module _ {K : Type 0} (m : Kind K) (a : ℕ) where
       by_fate (stays not_here same) = same ∙ on
       by_fate (works method is accepted made) = made
 
-  pub worked_since : {start : Ledger K} {log : List (Entry K)} → Commissioned m start → (reckon m start log).marked a ≡ true → WorkedSince m start log a
-  worked_since {start} {log} commissioned on =
+  pub worked_since : {start : Ledger K} {log : List (Entry K)} → Starts m start → (reckon m start log).marked a ≡ true → WorkedSince m start log a
+  worked_since {start} {log} starts on =
       ⊎_elim
-      (λ h. absurd (true≢false (sym h.0 ∙ ap (λ (f : ℕ → Bool). f a) commissioned.none_marked)))
+      (λ h. absurd (true≢false (sym h.0 ∙ ap (λ (f : ℕ → Bool). f a) starts.none_marked)))
       (λ w. w)
       (since log start on)
 

@@ -1,4 +1,4 @@
--- How a plan stands when it was just commissioned, and after one entry more.
+-- How a plan stands at the start of its log, and after one entry more.
 use Rattle.std.proofs.Common.{◌≡◌, ◌≤◌, List, [], ◌∷◌, ◌++◌, ℕ, Bool, subst, sym, ap, ◌∙◌}
 use Rattle.std.proofs.lemmas.Bool.{true≢false}
 use Rattle.cost.specs.Kind.{Kind}
@@ -7,7 +7,7 @@ use Rattle.ledger.specs.Ledger.{Ledger, network, unmarked}
 use Rattle.ledger.specs.View.{View}
 use Rattle.ledger.specs.Fair.{Fair}
 use Rattle.ledger.specs.Log.{Entry, entered}
-use Rattle.ledger.specs.Commissioned.{Commissioned}
+use Rattle.ledger.specs.Starts.{Starts}
 use Rattle.ledger.specs.Holds.{Holds}
 use Rattle.ledger.specs.Stands.{Stands}
 use Rattle.ledger.specs.Effects.{AllCleared}
@@ -24,16 +24,16 @@ module _ {K : Type 0} {m : Kind K} where
     unmarked = λ a there off. all_cleared a there;
   }
 
-  -- just commissioned
-  pub commissioned_stands : {start : Ledger K} {v : View K} → Commissioned m start → v.ledger ≡ start → AllCleared m v → Stands m start [] v
-  commissioned_stands c is all_cleared =
-      record { commissioned = c; reckoned = is; holds = unmarked_holds c.not_too_many c.fair c.none_marked is all_cleared }
+  -- at the start of its log
+  pub start_stands : {start : Ledger K} {v : View K} → Starts m start → v.ledger ≡ start → AllCleared m v → Stands m start [] v
+  start_stands c is all_cleared =
+      record { starts = c; reckoned = is; holds = unmarked_holds c.not_too_many c.fair c.none_marked is all_cleared }
 
   module _ {start : Ledger K} {log : List (Entry K)} where
     -- after one entry more, by which tables hold what they have to
     pub stands_next : {v w : View K} → Stands m start log v → (e : Entry K) → w.ledger ≡ entered m v.ledger e → Holds m w → Stands m start (log ++ e ∷ []) w
     stands_next stands e next holds = record {
-      commissioned = stands.commissioned;
+      starts = stands.starts;
       reckoned = next ∙ ap (λ (z : Ledger K). entered m z e) stands.reckoned ∙ sym (reckon_on m start log (e ∷ []));
       holds = holds;
     }

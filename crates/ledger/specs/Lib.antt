@@ -4,7 +4,7 @@ pub mod After
 pub mod View
 pub mod Fair
 pub mod Log
-pub mod Commissioned
+pub mod Starts
 pub mod Marks
 pub mod Holds
 pub mod Stands

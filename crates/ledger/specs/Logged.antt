@@ -1,8 +1,8 @@
 -- Promises over every site log.
 --
---   Logged m e before after    from whatever commissioning and log a plan stands before a call, it stands after it by the log with the
+--   Logged m e before after    from whatever start and log a plan stands before a call, it stands after it by the log with the
 --                              entry e added
---   Reckoned m before says     and what is said holds of the ledger that is reckoned from that commissioning and log
+--   Reckoned m before says     and what is said holds of the ledger that is reckoned from that start and log
 use Rattle.std.specs.Prelude.{List, [], ◌∷◌, ◌++◌}
 use Rattle.cost.specs.Kind.{Kind}
 use Rattle.ledger.specs.Ledger.{Ledger}

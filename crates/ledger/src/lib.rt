@@ -11,4 +11,4 @@ mod log;
 pub use asking::{check_stands, cost_stands, route_stands};
 pub use changing::{lay_stands, lift_stands, work_stands};
 pub use links::links_stay_fair;
-pub use log::{commissioning_stands, marks_tell_of_work};
+pub use log::{marks_tell_of_work, start_stands};

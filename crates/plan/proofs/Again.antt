@@ -1,29 +1,22 @@
 -- The file that a plan was written as is read as its stations and links again.
-use Rattle.std.proofs.Common.{◌≡◌, ℕ, ◌*◌, ◌≤◌, ◌||◌, List, map, length, drop, Bool, true, false, None, Some, Option, Result, Ok, Err, IfOk, is_ok, if◌then◌else◌, nat_lt, sym, subst, arith}
+use Rattle.std.proofs.Common.{◌≡◌, ℕ, ◌*◌, ◌≤◌, ◌||◌, List, map, length, take, Bool, true, false, None, Some, Option, Result, Ok, Err, IfOk, nat_lt, sym, arith}
 use Rattle.std.proofs.lemmas.Bool.Decides.{nat_tests}
-use Rattle.std.proofs.lemmas.List.{take_at}
 use Rattle.std.specs.Option.{option_or}
-use Rattle.cost.specs.Forms.{Forms}
 use Rattle.cost.specs.Kind.{Kind}
 use Rattle.refusal.specs.Code.{bare}
 use Rattle.refusal.specs.First.{refused_if, told}
 use Rattle.refusal.specs.declared.Refusal.{Refusal}
-use Rattle.filekind.specs.Format.{Format, Ranged}
-use Rattle.filekind.specs.declared.range.LinkRange.{LinkRange}
+use Rattle.filekind.specs.Format.{Format}
 use Rattle.planfile.specs.Encoding.{file_of}
-use Rattle.planfile.specs.Fronted.{fronted}
 use Rattle.planfile.specs.Reading.{header_refusal, reading_refusal, stations_of}
 use Rattle.planfile.specs.Records.{fields_of}
+use Rattle.planfile.specs.RoundTrip.{ReadsBack}
 use Rattle.planfile.specs.Sound.{Sound}
 use Rattle.planfile.specs.Writing.{writing_refusal}
-use Rattle.planfile.proofs.BothWays.{reads_back}
-use Rattle.ledger.specs.Ledger.{Ledger}
 use Rattle.ledger.specs.View.{View}
 use Rattle.tables.specs.Read.{file_refusal}
 use Rattle.plan.specs.Again.{ReadAgain, Rereads}
-use Rattle.plan.specs.Apart.{Apart}
-use Rattle.plan.proofs.KeptApart.{reckoned_apart}
-use Rattle.plan.proofs.SoundLinks.{sound_from_apart}
+use Rattle.plan.proofs.SoundLinks.{fair_sound}
 
 -- a test that passes, between the first tests and all of them
 passes_on : {A : Type 0} (first rest : Option A) (test : Bool) (code : A) → test ≡ false → option_or first rest ≡ None
@@ -40,29 +33,28 @@ accepted_beside f places costs predecessors n bs stations fit_costs fit_predeces
     let large : (nat_lt costs cells || nat_lt predecessors cells) ≡ false = rw stations (grind (arith, nat_tests)) in
     passes_on (header_refusal f places bs) _ (nat_lt costs cells || nat_lt predecessors cells) (bare 19) large none
 
-module _ {K : Type 0} (m : Kind K) (formed : ℕ → Option K) (numbered : Forms m formed) (f : Format) (range : LinkRange) where
-  module _ (ranged : Ranged m formed f range) (v : View K) where
-    abbrev file : List ℕ
-    file = file_of m f v.ledger.stations v.ledger.links
+module _ {K : Type 0} (m : Kind K) (formed : ℕ → Option K) (f : Format) (v : View K) where
+  abbrev file : List ℕ
+  file = file_of m f v.ledger.stations v.ledger.links
 
-    sound_again : Sound f v.ledger.stations (map (fields_of m) v.ledger.links) → ReadAgain m formed f v.ledger file
-    sound_again sound =
-        let back = reads_back m formed numbered f range ranged v.ledger.stations v.ledger.links sound in
-        record {
-          accepted = λ places costs predecessors some few enough fit_costs fit_predecessors.
-              accepted_beside f places costs predecessors v.ledger.stations file back.stations fit_costs fit_predecessors
-              (back.accepted places some few enough);
-          stations = back.stations;
-          same = back.same;
-        }
+  abbrev Back : List ℕ → Type 0
+  Back bs = ReadsBack m formed f v.ledger.stations v.ledger.links bs
 
-    -- the plan stands after some log, which kept its links apart
-    pub written_again : (old new : List ℕ) (r : Result ℕ Refusal)
-        → told r ≡ writing_refusal m f v.ledger.stations v.ledger.links (length old) → IfOk r (λ l. l ≡ length file)
-        → new ≡ (if is_ok r then fronted file old else old) → Rereads m formed f v r new
-    written_again old new (Ok l) refused value after start log stands apart =
-        let ledger = sym stands.reckoned in
-        let kept : Apart v.ledger.links = subst (λ (g : Ledger K). Apart g.links) ledger (reckoned_apart m start log apart) in
-        let sound = sound_from_apart m f v.ledger.stations v.ledger.links (length old) stands.holds.fair kept (sym refused) in
-        rw (after, take_at file (drop (length file) old) l (sym value)) (sound_again sound)
-    written_again old new (Err refusal) refused value after start log stands apart = tt
+  again : (bs : List ℕ) → Back bs → ReadAgain m formed f v.ledger bs
+  again bs back = record {
+    accepted = λ places costs predecessors some few enough fit_costs fit_predecessors.
+        accepted_beside f places costs predecessors v.ledger.stations bs back.stations fit_costs fit_predecessors
+        (back.accepted places some few enough);
+    stations = back.stations;
+    same = back.same;
+  }
+
+  -- a plan that stands has links that make a sound file
+  pub written_again : (old new : List ℕ) (r : Result ℕ Refusal)
+      → told r ≡ writing_refusal m f v.ledger.stations v.ledger.links (length old)
+      → IfOk r (λ l. Sound f v.ledger.stations (map (fields_of m) v.ledger.links) → Back (take l new)) → Rereads m formed f v r new
+  written_again old new (Ok l) refused back = record {
+    by_log = λ start log stands.
+        again (take l new) (back (fair_sound m f v.ledger.stations v.ledger.links (length old) stands.holds.fair (sym refused)));
+  }
+  written_again old new (Err refusal) refused back = record { by_log = λ start log stands. tt }

@@ -1,7 +1,9 @@
--- How a plan stands that was just made, or read from a file.
-use Rattle.std.proofs.Common.{◌≡◌, ℕ, ◌<◌, List, [], length, map, None, Option, Result, Ok, Err, OnOk, refl, subst, sym, arith}
+-- How a plan stands that is new, or was just made, or read from a file.
+use Rattle.std.proofs.Common.{◌≡◌, ◌≢◌, ℕ, ◌≤◌, List, [], length, map, None, Option, Result, Ok, Err, OnOk, refl, subst, sym, ap, arith}
 use Rattle.std.proofs.lemmas.Bool.Decides.{nat_tests}
-use Rattle.cost.specs.Kind.{Kind}
+use Rattle.std.proofs.lemmas.List.Elements.{All-nil}
+use Rattle.std.specs.List.{All}
+use Rattle.cost.specs.Kind.{Kind, Below}
 use Rattle.cost.specs.declared.link.Link.{Link}
 use Rattle.refusal.specs.First.{told}
 use Rattle.refusal.specs.declared.Refusal.{Refusal}
@@ -11,40 +13,46 @@ use Rattle.planfile.specs.Records.{fields_of}
 use Rattle.planfile.specs.RoundTrip.{Holds}
 use Rattle.planfile.specs.Sound.{Sound}
 use Rattle.routes.proofs.Members.{in_none}
-use Rattle.ledger.specs.Commissioned.{Commissioned}
+use Rattle.ledger.specs.Starts.{Starts}
 use Rattle.ledger.specs.Effects.{AllCleared}
 use Rattle.ledger.specs.Ledger.{Ledger}
 use Rattle.ledger.specs.Stands.{Stands}
-use Rattle.ledger.proofs.Stood.{commissioned_stands}
+use Rattle.ledger.proofs.Stood.{start_stands}
 use Rattle.tables.specs.Made.{make_refusal, made, Made}
 use Rattle.tables.specs.Read.{Read}
 use Rattle.tables.specs.View.{ledger_of, view_of}
 use Rattle.tables.specs.declared.state.Tables.{Tables}
-use Rattle.plan.specs.Apart.{Apart}
-use Rattle.plan.proofs.SoundLinks.{sound_apart, sound_fair}
+use Rattle.plan.proofs.SoundLinks.{sound_fair}
 
 module _ {K : Type 0} (m : Kind K) where
-  -- a number of stations that is not refused, with no link
-  made_commissioned : (n places costs predecessors : ℕ) → make_refusal n places costs predecessors ≡ None
-      → Commissioned m (made n places [])
-  made_commissioned n places costs predecessors none = record {
-    some_station = grind (arith, nat_tests, none);
-    not_too_many = grind (arith, nat_tests, none);
+  -- so many stations, with no link
+  starts_empty : (n places : ℕ) → n ≤ 256 → Starts m (made n places [])
+  starts_empty n places few = record {
+    not_too_many = few;
     fair = record {
       between = λ l laid. absurd (in_none laid);
-      one_per_pair = λ k l laid. absurd (in_none laid);
+      to_another = All-nil (λ l. l.from ≢ l.to);
+      pairs = λ i j d before within. absurd (omega (arith, within));
       none_free = λ l laid. absurd (in_none laid);
     };
     none_marked = refl;
   }
 
+  -- a plan that is not commissioned yet
+  pub new_stands : (t : Tables K) (places : ℕ) → ledger_of t ≡ made 0 places [] → Stands m (made 0 places []) [] (view_of m t)
+  new_stands t places is =
+      start_stands (starts_empty 0 places (omega arith)) is (λ a there. absurd (omega (arith, there, ap (λ (g : Ledger K). g.stations) is)))
+
   module _ (t t' : Tables K) where
+    few : (n places costs predecessors : ℕ) → make_refusal n places costs predecessors ≡ None → n ≤ 256
+    few n places costs predecessors none = grind (arith, nat_tests, none)
+
     -- a plan that was made of so many stations
     pub made_stands : (n costs predecessors : ℕ) (r : Result Unit Refusal)
         → told r ≡ make_refusal n (length t.list.cells.now) costs predecessors → OnOk r (Made m n t t') → OnOk r (AllCleared m (view_of m t'))
         → OnOk r (Stands m (made n (length t.list.cells.now) []) [] (view_of m t'))
     made_stands n costs predecessors (Ok x) refused left cleared =
-        commissioned_stands (made_commissioned n (length t.list.cells.now) costs predecessors (sym refused)) left.ledger cleared
+        start_stands (starts_empty n (length t.list.cells.now) (few n (length t.list.cells.now) costs predecessors (sym refused))) left.ledger cleared
     made_stands n costs predecessors (Err refusal) refused left cleared = tt
 
     -- one that was read from a file
@@ -55,28 +63,18 @@ module _ {K : Type 0} (m : Kind K) where
       abbrev Held : Type 0
       Held = Holds m f (ledger_of t').stations (ledger_of t').links bs
 
-      read_sound : Read m formed bs t t' → Held → Sound f (stations_of bs) (map (fields_of m) links)
-      read_sound left holds = subst (λ (g : Ledger K). Sound f g.stations (map (fields_of m) g.links)) left.ledger holds.sound
+      read_starts : (places : ℕ) → Read m formed bs t t' → Held → Starts m (made (stations_of bs) places links)
+      read_starts places left holds =
+          let sound = subst (λ (g : Ledger K). Sound f g.stations (map (fields_of m) g.links)) left.ledger holds.sound in
+          let costly = subst (λ (g : Ledger K). All (λ l. Below m m.zero l.cost) g.links) left.ledger holds.none_free in
+          record {
+            not_too_many = sound.few;
+            fair = sound_fair m f (stations_of bs) links sound costly;
+            none_marked = refl;
+          }
 
-      read_commissioned : (places : ℕ) → m.rank m.zero < f.low → Sound f (stations_of bs) (map (fields_of m) links)
-          → Commissioned m (made (stations_of bs) places links)
-      read_commissioned places zero_out sound = record {
-        some_station = sound.some;
-        not_too_many = sound.few;
-        fair = sound_fair m f (stations_of bs) links sound zero_out;
-        none_marked = refl;
-      }
-
-      pub read_stands : (r : Result Unit Refusal) → m.rank m.zero < f.low → OnOk r (Read m formed bs t t')
-          → OnOk r (AllCleared m (view_of m t')) → OnOk r Held
+      pub read_stands : (r : Result Unit Refusal) → OnOk r (Read m formed bs t t') → OnOk r (AllCleared m (view_of m t')) → OnOk r Held
           → OnOk r (Stands m (made (stations_of bs) (length t.list.cells.now) links) [] (view_of m t'))
-      read_stands (Ok x) zero_out left cleared holds =
-          commissioned_stands (read_commissioned (length t.list.cells.now) zero_out (read_sound left holds)) left.ledger cleared
-      read_stands (Err refusal) zero_out left cleared holds = tt
-
-      pub read_apart : (r : Result Unit Refusal) → OnOk r (Read m formed bs t t') → OnOk r Held → OnOk r (Apart links)
-      read_apart (Ok x) left holds = sound_apart m f (stations_of bs) links (read_sound left holds)
-      read_apart (Err refusal) left holds = tt
-
--- what the contract of reading wants
-pub ruleset file_read = (read_stands, read_apart)
+      read_stands (Ok x) left cleared holds =
+          start_stands (read_starts (length t.list.cells.now) left holds) left.ledger cleared
+      read_stands (Err refusal) left cleared holds = tt

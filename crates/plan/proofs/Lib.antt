@@ -1,4 +1,3 @@
 pub mod SoundLinks
-pub mod KeptApart
 pub mod Again
 pub mod Commissioned

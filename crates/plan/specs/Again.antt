@@ -3,8 +3,8 @@
 --   ReadAgain m formed f g bs      the file bs is accepted by any list, of 1 to 4,096 places, that has places for the links of the ledger
 --                                  g, beside tables with a cell for each two of its stations; it is read as the same number of stations
 --                                  and the same links in the same order
---   Rereads m formed f v r buffer  from whatever commissioning and log a plan stands, if the links that it was commissioned with are
---                                  apart: where it is written, the first bytes of the buffer, as many as are answered, are such a file
+--   Rereads m formed f v r buffer  from whatever start and log a plan stands, where it is written, the first bytes of the
+--                                  buffer, as many as are answered, are such a file
 use Rattle.std.specs.Prelude.{◌≡◌, ℕ, ◌*◌, ◌≤◌, List, length, take, None, Option, Result, IfOk}
 use Rattle.cost.specs.Kind.{Kind}
 use Rattle.refusal.specs.declared.Refusal.{Refusal}
@@ -16,7 +16,6 @@ use Rattle.ledger.specs.Log.{Entry}
 use Rattle.ledger.specs.Stands.{Stands}
 use Rattle.ledger.specs.View.{View}
 use Rattle.tables.specs.Read.{file_refusal}
-use Rattle.plan.specs.Apart.{Apart}
 
 module _ {K : Type 0} (m : Kind K) (formed : ℕ → Option K) (f : Format) where
   pub record ReadAgain (g : Ledger K) (bs : List ℕ) : Type 0 where
@@ -25,6 +24,5 @@ module _ {K : Type 0} (m : Kind K) (formed : ℕ → Option K) (f : Format) wher
     pub stations : stations_of bs ≡ g.stations
     pub same : SameLinks m (links_of m formed bs) g.links
 
-  abbrev pub Rereads : View K → Result ℕ Refusal → List ℕ → Type 0
-  Rereads v r buffer =
-      (start : Ledger K) (log : List (Entry K)) → Stands m start log v → Apart start.links → IfOk r (λ l. ReadAgain v.ledger (take l buffer))
+  pub record Rereads (v : View K) (r : Result ℕ Refusal) (buffer : List ℕ) : Type 0 where
+    pub by_log : (start : Ledger K) (log : List (Entry K)) → Stands m start log v → IfOk r (λ l. ReadAgain v.ledger (take l buffer))

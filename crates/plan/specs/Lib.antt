@@ -1,3 +1,2 @@
 pub mod View
-pub mod Apart
 pub mod Again

@@ -12,7 +12,6 @@ ghost use Rattle.tables.specs.Made.{make_refusal, made, Made};
 ghost use Rattle.tables.specs.Read.{file_refusal, Read};
 ghost use Rattle.tables.specs.View.{Same};
 ghost use Rattle.plan.specs.Again.{Rereads};
-ghost use Rattle.plan.specs.Apart.{Apart};
 ghost use Rattle.plan.specs.View.{view};
 
 use super::plan::Plan;
@@ -23,6 +22,7 @@ use tables::Tables;
 
 impl<'a, K: Cost> Plan<'a, K> {
     // A plan in memory that the caller lends, as it is: no station yet, no link, and no row worked.
+    #[tactic(auto, using(crate::proofs::Commissioned::new_stands))]
     pub fn new(
         list: &'a mut [Link<K>],
         costs: &'a mut [K],
@@ -34,6 +34,7 @@ impl<'a, K: Cost> Plan<'a, K> {
         ensures list { result.tables.list.cells.now ≡ list.old }
         ensures costs { result.tables.costs.cells.now ≡ costs.old }
         ensures predecessors { result.tables.predecessors.cells.now ≡ predecessors.old }
+        ensures stands { Stands K.Cost.kind (made 0 (length list.old) []) [] (view K.Cost.kind result) }
     {
         Plan {
             tables: Tables::new(list, costs, predecessors),
@@ -54,17 +55,14 @@ impl<'a, K: Cost> Plan<'a, K> {
 
 impl<'a, K: FileKind> Plan<'a, K> {
     // Commissions the stations and links of a plan file, with no worked row.
-    #[tactic(auto, using(crate::proofs::Commissioned::file_read))]
+    #[tactic(auto, using(crate::proofs::Commissioned::read_stands))]
     pub fn read(&mut self, bytes: &[u8]) -> Result<(), Refusal>
         ensures refused { told result ≡ file_refusal K.FileKind.format (length self.old.tables.list.cells.now) (length self.old.tables.costs.cells.now) (length self.old.tables.predecessors.cells.now) bytes.now }
         ensures left { OnOk result (Read K.Cost.kind K.Cost.formed bytes.now self.old.tables self.new.tables) }
         ensures commissioned { OnOk result (Stands K.Cost.kind (made (stations_of bytes.now) (length self.old.tables.list.cells.now) (links_of K.Cost.kind K.Cost.formed bytes.now)) [] (view K.Cost.kind self.new)) }
-        ensures apart { OnOk result (Apart (links_of K.Cost.kind K.Cost.formed bytes.now)) }
         ensures holds { OnOk result (Holds K.Cost.kind K.FileKind.format (view K.Cost.kind self.new).ledger.stations (view K.Cost.kind self.new).ledger.links bytes.now) }
         ensures same { OnErr result (Same self.old.tables self.new.tables) }
     {
-        // called for what it promises alone: the range leaves out zero
-        K::link_range();
         self.tables.read(bytes)
     }
 
@@ -76,8 +74,6 @@ impl<'a, K: FileKind> Plan<'a, K> {
         ensures after { buffer.new ≡ (if is_ok result then fronted (file_of K.Cost.kind K.FileKind.format (view K.Cost.kind self.now).ledger.stations (view K.Cost.kind self.now).ledger.links) buffer.old else buffer.old) }
         ensures reads_back { Rereads K.Cost.kind K.Cost.formed K.FileKind.format (view K.Cost.kind self.now) result buffer.new }
     {
-        // called for what it promises alone: each number of the range forms a cost
-        K::link_range();
         self.tables.write(buffer)
     }
 }

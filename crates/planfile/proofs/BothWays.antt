@@ -2,10 +2,11 @@
 use Rattle.std.proofs.Common.{◌≡◌, ℕ, ◌+◌, ◌*◌, ◌<◌, ◌≤◌, List, [], ◌∷◌, ◌++◌, map, length, drop, None, Option, sym, refl, ap, ◌∙◌, ap₂, arith, rules}
 use Rattle.std.proofs.ByRecursion.{All-weaker}
 use Rattle.std.proofs.lemmas.List.{length-map}
+use Rattle.std.proofs.lemmas.List.Elements.{All-cons, All-nil}
 use Rattle.std.proofs.lemmas.Bool.Decides.{nat_tests}
-use Rattle.std.specs.List.{AllByRecursion}
+use Rattle.std.specs.List.{All, AllByRecursion}
 use Rattle.cost.specs.Forms.{Forms}
-use Rattle.cost.specs.Kind.{Kind, FAR}
+use Rattle.cost.specs.Kind.{Kind, FAR, Below}
 use Rattle.cost.specs.declared.link.Link.{Link}
 use Rattle.filekind.specs.Format.{Format, Ranged}
 use Rattle.filekind.specs.declared.range.LinkRange.{LinkRange}
@@ -58,6 +59,11 @@ module _ {K : Type 0} (m : Kind K) (formed : ℕ → Option K) (numbered : Forms
   fields_again f r n ranged [] all = refl
   fields_again f r n ranged (x ∷ xs) all = ap₂ ◌∷◌ (grind (arith, all.0, ranged.forms x.number, numbered x.number)) (fields_again f r n ranged xs all.1)
 
+  -- the link range leaves out zero
+  none_free : (f : Format) (n : ℕ) → m.rank m.zero < f.low → (links : List (Link K)) → AllByRecursion (InRange f n) (map (fields_of m) links) → All (λ l. Below m m.zero l.cost) links
+  none_free f n zero_out [] all = All-nil (λ l. Below m m.zero l.cost)
+  none_free f n zero_out (l ∷ links) all = All-cons (λ k. Below m m.zero k.cost) l links (omega (arith, all.0.low, zero_out)) (none_free f n zero_out links all.1)
+
   -- an accepted file holds the links that are read from it
   pub file_holds : (f : Format) (r : LinkRange) → Ranged m formed f r → (places : ℕ) (bs : List ℕ) → reading_refusal f places bs ≡ None → encoding f (stations_of bs) (file_records bs) ≡ bs → Holds m f (stations_of bs) (links_of m formed bs) bs
   file_holds f r ranged places bs none whole =
@@ -74,6 +80,7 @@ module _ {K : Type 0} (m : Kind K) (formed : ℕ → Option K) (numbered : Forms
       record {
         encoded = rw again whole;
         sound = rw again (record { some = passes.some_stations; few = passes.few_stations; short = omega arith; laid = laid });
+        none_free = none_free f n ranged.zero_out links (rw again all);
         writable = λ room enough. sym (left_to_costs m f n links room passes.some_stations passes.few_stations (omega arith) (omega arith)) ∙ ap (first_outside f 0) again ∙ none_outside f n 0 xs all;
       }
 

@@ -1,7 +1,7 @@
 -- Both ways: what reading and writing are to each other.
 --
---   Holds m f n links bs      the file bs holds the plan: it is its encoding, the plan is sound, and writing the plan
---                             into any buffer that is long enough is not refused, so that it gives bs again
+--   Holds m f n links bs      the file bs holds the plan: it is its encoding, the plan is sound, no link costs zero, and writing
+--                             the plan into any buffer that is long enough is not refused, so that it gives bs again
 --   Accepts f places bs ok    ok, whether reading bs was accepted, is true wherever bs is the encoding of a sound plan and
 --                             the list, of 1 to 4,096 places, has a place for each of its links
 --   SameLinks m ls ls'        the same links in the same order: the same stations and the same costs
@@ -11,8 +11,8 @@
 --   PlanFits n xs             the numbers fit the places that the format has for them
 --   Unambiguous f             different plans have different encodings
 use Rattle.std.specs.Prelude.{◌≡◌, ℕ, ◌^◌, ◌<◌, ◌≤◌, Bool, true, List, map, length, None, Option}
-use Rattle.std.specs.List.{AllByRecursion}
-use Rattle.cost.specs.Kind.{Kind}
+use Rattle.std.specs.List.{All, AllByRecursion}
+use Rattle.cost.specs.Kind.{Kind, Below}
 use Rattle.cost.specs.declared.link.Link.{Link}
 use Rattle.filekind.specs.Format.{Format}
 use Rattle.planfile.specs.Encoding.{encoding, file_of}
@@ -25,6 +25,7 @@ use Rattle.planfile.specs.declared.fields.Fields.{Fields}
 pub record Holds {K : Type 0} (m : Kind K) (f : Format) (n : ℕ) (links : List (Link K)) (bs : List ℕ) : Type 0 where
   pub encoded : file_of m f n links ≡ bs
   pub sound : Sound f n (map (fields_of m) links)
+  pub none_free : All (λ l. Below m m.zero l.cost) links
   pub writable : (room : ℕ) → length bs ≤ room → writing_refusal m f n links room ≡ None
 
 abbrev pub Accepts : Format → ℕ → List ℕ → Bool → Type 0

@@ -1,6 +1,6 @@
 // Plan files: a plan's stations and links as bytes, both ways, in three layers: field, record and file.
 // Rests on the file kinds, the cost kinds and the refusals.
-// Accounts are made of what it reads.
+// Accounts and tables are made of what it reads.
 #![tactic(auto)]
 
 mod counts;

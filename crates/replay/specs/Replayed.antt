@@ -4,7 +4,7 @@
 --   AnsweredAt .. i       entry i has the right answer by the ledger reckoned up to it, and leaves what it has to; before it the plan stands
 --                         by the log up to it, and then by the log with it
 --   Replayed .. n         so it is with each of the first n entries, and each is run at the moment that the one before it left
---   Replays .. n          this holds from whatever commissioning and log the plan stands at first
+--   Replays .. n          this holds from whatever start and log the plan stands at first
 use Rattle.std.specs.Prelude.{◌≡◌, ℕ, ◌+◌, ◌<◌, List, ◌++◌, map, take, Some}
 use Rattle.std.specs.List.{slice_get}
 use Rattle.cost.specs.Kind.{Kind}

@@ -1,5 +1,5 @@
 // Tables that are made in lent memory, and commissioned.
-ghost use Rattle.std.specs.Prelude.{◌≡◌, ℕ, ◌*◌, ◌<◌, ◌≤◌, false, length, replicate, slice_index_or, take, OnOk, OnErr};
+ghost use Rattle.std.specs.Prelude.{◌≡◌, ℕ, [], ◌*◌, ◌<◌, ◌≤◌, false, length, replicate, slice_index_or, take, OnOk, OnErr};
 ghost use Rattle.cost.specs.declared.link.Link.{Link as LinkOf};
 ghost use Rattle.refusal.specs.First.{told};
 ghost use Rattle.ledger.specs.Effects.{AllCleared};
@@ -13,6 +13,7 @@ use refusal::Refusal;
 
 impl<'a, K: Cost> Tables<'a, K> {
     // Tables in memory that the caller lends, as it is: no station yet, no link, and no row worked.
+    #[tactic(auto, using(crate::proofs::Unmarked::unmarked_ledger))]
     pub fn new(
         list: &'a mut [Link<K>],
         costs: &'a mut [K],
@@ -24,6 +25,7 @@ impl<'a, K: Cost> Tables<'a, K> {
         ensures list { result.list.cells.now ≡ list.old }
         ensures costs { result.costs.cells.now ≡ costs.old }
         ensures predecessors { result.predecessors.cells.now ≡ predecessors.old }
+        ensures ledger { ledger_of result ≡ made 0 (length list.old) [] }
     {
         Tables {
             stations: 0,

@@ -1,11 +1,13 @@
 // Tables that are commissioned by a plan file, and written as one.
-ghost use Rattle.std.specs.Prelude.{◌≡◌, ◌≤◌, length, take, is_ok, IfOk, OnErr, OnOk, if◌then◌else◌};
+ghost use Rattle.std.specs.Prelude.{◌≡◌, ◌≤◌, length, map, take, is_ok, IfOk, OnErr, OnOk, if◌then◌else◌};
 ghost use Rattle.refusal.specs.First.{told};
 ghost use Rattle.ledger.specs.Effects.{AllCleared};
 ghost use Rattle.planfile.specs.Encoding.{file_of};
 ghost use Rattle.planfile.specs.Fronted.{fronted};
 ghost use Rattle.planfile.specs.Reading.{counts_of, links_of, reading_refusal, stations_of};
+ghost use Rattle.planfile.specs.Records.{fields_of};
 ghost use Rattle.planfile.specs.RoundTrip.{Holds, ReadsBack};
+ghost use Rattle.planfile.specs.Sound.{Sound};
 ghost use Rattle.planfile.specs.Writing.{writing_refusal};
 ghost use Rattle.tables.specs.View.{Same, ledger_of, view_of};
 ghost use Rattle.tables.specs.Read.{file_refusal, Read};
@@ -50,6 +52,7 @@ impl<'a, K: FileKind> Tables<'a, K> {
         ensures refused { told result ≡ writing_refusal K.Cost.kind K.FileKind.format self.now.stations (ledger_of self.now).links (length buffer.old) }
         ensures value { IfOk result (λ l. l ≡ length (file_of K.Cost.kind K.FileKind.format self.now.stations (ledger_of self.now).links)) }
         ensures after { buffer.new ≡ (if is_ok result then fronted (file_of K.Cost.kind K.FileKind.format self.now.stations (ledger_of self.now).links) buffer.old else buffer.old) }
+        ensures reads_back { IfOk result (λ l. Sound K.FileKind.format self.now.stations (map (fields_of K.Cost.kind) (ledger_of self.now).links) → ReadsBack K.Cost.kind K.Cost.formed K.FileKind.format self.now.stations (ledger_of self.now).links (take l buffer.new)) }
     {
         write(self.stations, self.list.first(self.count as usize), buffer)
     }
