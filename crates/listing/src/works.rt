@@ -6,7 +6,7 @@ ghost use Rattle.ledger.specs.Log.{Entry};
 ghost use Rattle.ledger.specs.Logged.{Reckoned};
 ghost use Rattle.ledger.specs.Stands.{Stands};
 ghost use Rattle.plan.specs.View.{view};
-ghost use Rattle.listing.specs.AllRows.{works};
+ghost use Rattle.listing.specs.AllRows.{works, AllWorked};
 
 use cost::Cost;
 use plan::Plan;
@@ -15,6 +15,7 @@ use routes::Method;
 
 // Works each row in row order; that of a worked row is refused, and changes nothing.
 pub fn work_all<K: Cost, Q: Queue>(plan: &mut Plan<K>, method: Method, queue: &mut Q)
+    ensures rows { AllWorked K.Cost.kind method plan.old (Q.Queue.meaning queue.old) (view K.Cost.kind plan.old).ledger.stations plan.new (Q.Queue.meaning queue.new) }
     ensures logged { (start : Ledger K) (log : List (Entry K)) → Stands K.Cost.kind start log (view K.Cost.kind plan.old) → Stands K.Cost.kind start (log ++ works (view K.Cost.kind plan.old).ledger.stations method) (view K.Cost.kind plan.new) }
     ensures marked { Reckoned K.Cost.kind (view K.Cost.kind plan.old) (λ g. (a : ℕ) → a < g.stations → (view K.Cost.kind plan.new).ledger.marked a ≡ true) }
     ensures network { Reckoned K.Cost.kind (view K.Cost.kind plan.old) (λ g. network (view K.Cost.kind plan.new).ledger ≡ network g) }
