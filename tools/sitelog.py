@@ -17,6 +17,7 @@ TOP = 2**64 - 1
 FAR = TOP
 NONE = 65535
 BYTES = {"sum": 0, "split": 1}
+WHITE = b" \t\r\f"  # white space of ASCII, but for byte 10, which ends a line
 RANGES = {"sum": (1, 1_000_000_000), "split": (2, 64)}
 ZERO = {"sum": 0, "split": 1}
 
@@ -282,8 +283,11 @@ SHAPES = {
 
 
 def parse(line):
-    """The name of a call and its arguments."""
-    name, *fields = line.split(" ")
+    """The name of a call and its arguments, of a line's bytes."""
+    try:
+        name, *fields = line.decode().split(" ")
+    except UnicodeDecodeError:
+        raise NotUnderstood
     if name == "check" and fields:
         return name, [station(fields[0]), [cell(field) for field in fields[1:]]]
     for shape in SHAPES.get(name, []):
@@ -297,7 +301,7 @@ def told(cost):
 
 
 class Log:
-    """Lines of the input, those of the output, and the plan that they leave."""
+    """Lines of the input, those of the output, both in bytes, and the plan that they leave."""
 
     def __init__(self, files):
         self.plan, self.files, self.lines, self.answers = Plan(), dict(files), [], []
@@ -356,8 +360,10 @@ class Log:
         return getattr(self, "answer_" + name)(*arguments)
 
     def say(self, line):
-        """Adds a line with its answer; no line that has a free one."""
-        if not line.strip() or line.startswith("#"):
+        """Adds a line, of text or bytes, with its answer; no line that has a free one."""
+        if isinstance(line, str):
+            line = line.encode()
+        if not line.strip(WHITE) or line.startswith(b"#"):
             self.lines.append(line)
             self.answers.append(line)
             return
@@ -371,7 +377,7 @@ class Log:
             text = "not understood"
             self.not_understood += 1
         self.lines.append(line)
-        self.answers.append(f"{line} -> {text}")
+        self.answers.append(line + f" -> {text}".encode())
 
     def say_all(self, text):
         """Lines, divided by semicolons."""
@@ -390,7 +396,7 @@ class Log:
 
     def last_line(self):
         entries = self.accepted + self.refused + self.not_understood
-        return f"entries {entries}, accepted {self.accepted}, refused {self.refused}, not understood {self.not_understood}"
+        return f"entries {entries}, accepted {self.accepted}, refused {self.refused}, not understood {self.not_understood}".encode()
 
 
 def pair_line(a, b, cost):
@@ -572,6 +578,23 @@ def one_by_chance(log, n, dice):
     ]))
 
 
+def odd_bytes(log):
+    log.note("byte 10 alone ends a line: a byte 13 before it is white space in a blank line, and a part of the last field in another")
+    log.say_all("make sum 2 2; lay 0 1 5; work 0 plain heap")
+    for line in ("\r", " \t\f\r", "#\r", "lay 1 0 5\r", "lift 0 1\r", "cost 0 1\r", "cost 0\r 1", "\rcost 0 1", "cost 0 1\rcost 0 1", "read campus_h.cpl\r", "\v"):
+        log.say(line)
+    log.note("text that is no command: caf\u00e9")
+    for line in ("caf\u00e9", "\ufeffcost 0 1", "cost\u00a00\u00a01", "cost 0 \uff11", "\u00a0", "\u2028", "read caf\u00e9.cpl", "read campus_h.cpl\0"):
+        log.say(line)
+    log.note("bytes that are not UTF-8")
+    for line in (
+        b"# caf\xe9", b"#\xff\x00\xfe\r", b"caf\xe9", b"\xff", b"cost 0 1\x80", b"cost 0 1 \xc3", b"lay 1 0 5\xff", b"lift 0 \xb1", b"cost \xc0\xb0 1", b"cost 0 1\xed\xa0\x80",
+        b"read campus_h.cpl\xf5", b" \xa0\xe9", b" # caf\xe9",
+    ):
+        log.say(line)
+    log.say("cost 0 1")
+
+
 def main():
     root = pathlib.Path("crates")
     campus = Plan("sum", 5, 512, CAMPUS_H)
@@ -583,10 +606,10 @@ def main():
     for name, content in files().items():
         (data / name).write_bytes(content)
     log = Log(files())
-    for part in (before_any, story, refusals, two_kinds, plan_files, large, no_commands, by_chance):
+    for part in (before_any, story, refusals, two_kinds, plan_files, large, no_commands, by_chance, odd_bytes):
         part(log)
-    (root / "sitelog/stdin").write_text("".join(line + "\n" for line in log.lines))
-    (root / "sitelog/stdout").write_text("".join(line + "\n" for line in log.answers + [log.last_line()]))
+    (root / "sitelog/stdin").write_bytes(b"".join(line + b"\n" for line in log.lines))
+    (root / "sitelog/stdout").write_bytes(b"".join(line + b"\n" for line in log.answers + [log.last_line()]))
 
 
 main()

@@ -5,6 +5,7 @@ use filekind::Kind;
 use routes::Method;
 use std::alloc::{AllocError, Global};
 use std::num::ParseIntError;
+use std::str::Utf8Error;
 
 // What a line asks for.
 #[derive(Drop)]
@@ -79,15 +80,21 @@ impl From<ParseIntError> for NoCommand {
     }
 }
 
-// Whether a line asks for nothing: a blank one, or words after the sign #.
-pub fn asks_nothing(line: &str) -> bool {
-    line.starts_with('#') || line.trim().is_empty()
+impl From<Utf8Error> for NoCommand {
+    fn from(_: Utf8Error) -> NoCommand {
+        NoCommand::NotUnderstood
+    }
+}
+
+// Whether a line asks for nothing: a blank one, with no byte but white space of ASCII, or one that begins with the sign #.
+pub fn asks_nothing(line: &[u8]) -> bool {
+    line.starts_with(b"#") || line.trim_ascii().is_empty()
 }
 
 impl<'a> Command<'a> {
-    // The command of a line.
-    pub fn parse(alloc: Global, line: &'a str) -> Result<Command<'a>, NoCommand> {
-        let words: Vec<&str> = line.split(' ').collect(alloc)?;
+    // The command of a line, which has to be text in UTF-8.
+    pub fn parse(alloc: Global, line: &'a [u8]) -> Result<Command<'a>, NoCommand> {
+        let words: Vec<&str> = str::from_utf8(line)?.split(' ').collect(alloc)?;
         match words.as_slice() {
             ["make", kind, stations, places] => Ok(Command::Make {
                 kind: fields::kind(kind)?,

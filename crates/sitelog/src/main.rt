@@ -10,7 +10,7 @@
 //     route FROM TO                  a least route, in a list with a place for each station
 //     route FROM TO PLACES           in a list with so many places
 //     check SOURCE COST:STATION ..   tests a supplier's row: of each station its cost and predecessor, or - for none
-//     table METHOD QUEUE             works all rows; tells each pair's least cost
+//     table METHOD QUEUE             works the rows that are not worked; tells each pair's least cost
 //     # words                        only repeats the words
 //
 // A kind is sum or split, a method plain, reuse or prune, a queue heap or shelf. A cost is far, or the number that is stored. There is a
@@ -31,12 +31,23 @@ mod tally;
 use anyhow::Result;
 use commissioning::Commissioning;
 use session::Session;
-use std::io;
+use std::alloc::{AllocError, Global};
+use std::io::Read;
+
+// The lines of a log. A byte 10 ends a line; the last line may lack it.
+fn lines(alloc: Global, log: &[u8]) -> Result<Vec<&[u8]>, AllocError> {
+    let mut lines: Vec<&[u8]> = log.split(|byte| *byte == b'\n').collect(alloc)?;
+    if lines.last().is_some_and(|rest| rest.is_empty()) {
+        lines.pop();
+    }
+    Ok(lines)
+}
 
 // Answers the site log of the standard input. Each round answers a line at least, so there are as many as lines at most.
 fn run(rt: &HostRuntime) -> Result<()> {
-    let log = io::read_to_string(rt.alloc(), rt.stdin())?;
-    let lines: Vec<&str> = log.lines().collect(rt.alloc())?;
+    let mut log = Vec::new(rt.alloc());
+    rt.stdin().read_to_end(&mut log)?;
+    let lines = lines(rt.alloc(), &log)?;
     let mut session = Session::new();
     let mut begin = Commissioning::None;
     for _ in &lines {

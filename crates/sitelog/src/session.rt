@@ -46,7 +46,7 @@ impl Session {
         &mut self,
         rt: &HostRuntime,
         begin: &Commissioning,
-        lines: &[&str],
+        lines: &[&[u8]],
     ) -> Result<Option<Commissioning>> {
         match begin.kind() {
             Kind::Sum => self.serve_kind::<Sum>(rt, begin, lines),
@@ -59,7 +59,7 @@ impl Session {
         &mut self,
         rt: &HostRuntime,
         begin: &Commissioning,
-        lines: &[&str],
+        lines: &[&[u8]],
     ) -> Result<Option<Commissioning>> {
         let mut memory = begin.memory::<K>(rt.alloc())?;
         let mut plan = memory.lend();
@@ -77,15 +77,16 @@ impl Session {
         Ok(None)
     }
 
-    // Answers a line.
+    // Answers a line, whose bytes are written again as they are.
     fn answer_line<K: StoredKind>(
         &mut self,
         rt: &HostRuntime,
         plan: &mut Plan<K>,
-        line: &str,
+        line: &[u8],
     ) -> Result<()> {
         if asks_nothing(line) {
-            println!(rt; "{line}")?;
+            rt.write_all(line)?;
+            println!(rt)?;
             return Ok(());
         }
         let reply = match Command::parse(rt.alloc(), line) {
@@ -94,7 +95,8 @@ impl Session {
             Err(NoCommand::OutOfMemory) => bail!("out of memory"),
         };
         self.tally.count(&reply);
-        println!(rt; "{line} -> {reply}")?;
+        rt.write_all(line)?;
+        println!(rt; " -> {reply}")?;
         if let Reply::Table(lines) = &reply {
             rt.print(lines)?;
         }
