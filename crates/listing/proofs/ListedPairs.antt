@@ -1,11 +1,11 @@
 -- Where all rows are worked, a plan's lines are those of all pairs, each at the least cost.
-use Rattle.std.proofs.Common.{◌≡◌, ℕ, ◌<◌, ◌++◌, true, List, length, ap, sym, subst, ◌∙◌}
+use Rattle.std.proofs.Common.{◌≡◌, ℕ, ◌<◌, ◌++◌, true, List, length, ap, subst, ◌∙◌}
 use Rattle.cost.specs.Kind.{Kind}
 use Rattle.filekind.specs.Format.{Format}
 use Rattle.account.specs.Lines.{head_line}
 use Rattle.routes.specs.Network.{Network}
 use Rattle.ledger.specs.Ledger.{Ledger, network}
-use Rattle.ledger.specs.Log.{Entry, reckon}
+use Rattle.ledger.specs.Log.{Entry}
 use Rattle.ledger.specs.Stands.{Stands}
 use Rattle.ledger.specs.View.{View}
 use Rattle.listing.proofs.Ranges.{told_alike}
@@ -19,25 +19,14 @@ module _ {K : Type 0} (m : Kind K) where
       told_alike _ _ v.ledger.stations
       (λ a there. told_alike (pair_lines m v a) (λ b. cost_line m a b ((v.rows a).costs b)) v.ledger.stations (λ b _. rw (marked a there)))
 
-  module _ (f : Format) {start : Ledger K} {log : List (Entry K)} {v : View K} (stands : Stands m start log v) where
-    listed_here : ((a : ℕ) → a < v.ledger.stations → v.ledger.marked a ≡ true) → (text : List ℕ)
-        → text ≡ head_line f (record { stations = v.ledger.stations; links = length v.ledger.links }) ++ table_text m v
-        → Listed m f (network v.ledger) text
-    listed_here marked text is = record {
-      costs = λ a b. (v.rows a).costs b;
-      least = λ a b here there. (stands.holds.marked a here (marked a here)).least b there;
-      lines = is ∙ ap (λ xs. head_line f (record { stations = v.ledger.stations; links = length v.ledger.links }) ++ xs) (all_pairs v marked);
-    }
-
-    -- by the ledger g from which the rows were worked
-    pub listed : (g : Ledger K) → network v.ledger ≡ network g → ((a : ℕ) → a < g.stations → v.ledger.marked a ≡ true) → (text lines : List ℕ)
-        → lines ≡ table_text m (record { ledger = reckon m start log; rows = v.rows })
-        → text ≡ head_line f (record { stations = v.ledger.stations; links = length v.ledger.links }) ++ lines
-        → Listed m f (network g) text
-    listed g same marked text lines told is =
-        subst (λ (net : Network K). Listed m f net text) same
-        (listed_here
-        (λ a there. marked a (subst (λ (net : Network K). a < net.stations) same there))
-        text
-        (is ∙ ap (λ xs. head_line f (record { stations = v.ledger.stations; links = length v.ledger.links }) ++ xs)
-        (told ∙ ap (λ (z : Ledger K). table_text m (record { ledger = z; rows = v.rows })) (sym stands.reckoned))))
+  -- a plan that stands, with all rows worked, on these stations and links
+  pub listed : (f : Format) {start : Ledger K} {log : List (Entry K)} {v : View K} → Stands m start log v → (net : Network K) → network v.ledger ≡ net
+      → ((a : ℕ) → a < v.ledger.stations → v.ledger.marked a ≡ true) → (text : List ℕ)
+      → text ≡ head_line f (record { stations = v.ledger.stations; links = length v.ledger.links }) ++ table_text m v → Listed m f net text
+  listed f {v = v} stands net same marked text is =
+      subst (λ (z : Network K). Listed m f z text) same
+      (record {
+        costs = λ a b. (v.rows a).costs b;
+        least = λ a b here there. (stands.holds.marked a here (marked a here)).least b there;
+        lines = is ∙ ap (λ xs. head_line f (record { stations = v.ledger.stations; links = length v.ledger.links }) ++ xs) (all_pairs v marked);
+      })

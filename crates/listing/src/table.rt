@@ -1,6 +1,5 @@
 // The least costs of a plan's worked rows, as lines of text.
 ghost use Rattle.std.specs.Prelude.{◌≡◌, ◌<◌, ◌++◌, IfOk, OnOk, Some, string_bytes};
-ghost use Rattle.ledger.specs.Logged.{Reckoned};
 ghost use Rattle.plan.specs.View.{view};
 ghost use Rattle.listing.specs.Lines.{cost_word, pair_lines, row_lines, table_text};
 
@@ -36,7 +35,7 @@ fn push_pair<K: Cost>(
 ) -> Result<(), AllocError>
     requires from_there { from < (view K.Cost.kind plan.now).ledger.stations }
     requires to_there { to < (view K.Cost.kind plan.now).ledger.stations }
-    ensures value { Reckoned K.Cost.kind (view K.Cost.kind plan.now) (λ g. OnOk result (string_bytes text.new ≡ string_bytes text.old ++ pair_lines K.Cost.kind (record { ledger = g; rows = (view K.Cost.kind plan.now).rows }) from to)) }
+    ensures value { OnOk result (string_bytes text.new ≡ string_bytes text.old ++ pair_lines K.Cost.kind (view K.Cost.kind plan.now) from to) }
 {
     if let Ok(cost) = plan.cost(from, to) {
         let cost = CostWord(cost);
@@ -48,7 +47,7 @@ fn push_pair<K: Cost>(
 // The lines of a row.
 fn push_row<K: Cost>(text: &mut String, plan: &Plan<K>, from: u16) -> Result<(), AllocError>
     requires { from < (view K.Cost.kind plan.now).ledger.stations }
-    ensures value { Reckoned K.Cost.kind (view K.Cost.kind plan.now) (λ g. OnOk result (string_bytes text.new ≡ string_bytes text.old ++ row_lines K.Cost.kind (record { ledger = g; rows = (view K.Cost.kind plan.now).rows }) from)) }
+    ensures value { OnOk result (string_bytes text.new ≡ string_bytes text.old ++ row_lines K.Cost.kind (view K.Cost.kind plan.now) from) }
 {
     for to in 0..plan.counts().stations {
         push_pair(text, plan, from, to)?;
@@ -58,7 +57,7 @@ fn push_row<K: Cost>(text: &mut String, plan: &Plan<K>, from: u16) -> Result<(),
 
 // A line for each pair of stations whose row is worked, in row order.
 pub fn table_lines<K: Cost>(heap: Global, plan: &Plan<K>) -> Result<String, AllocError>
-    ensures value { Reckoned K.Cost.kind (view K.Cost.kind plan.now) (λ g. IfOk result (λ s. string_bytes s ≡ table_text K.Cost.kind (record { ledger = g; rows = (view K.Cost.kind plan.now).rows }))) }
+    ensures value { IfOk result (λ s. string_bytes s ≡ table_text K.Cost.kind (view K.Cost.kind plan.now)) }
 {
     let mut text = String::new(heap);
     for from in 0..plan.counts().stations {

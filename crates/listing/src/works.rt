@@ -3,7 +3,6 @@ ghost use Rattle.std.specs.Prelude.{◌≡◌, ℕ, ◌<◌, ◌++◌, true, Lis
 ghost use Rattle.cost.specs.Kind.{Kind};
 ghost use Rattle.ledger.specs.Ledger.{Ledger, network};
 ghost use Rattle.ledger.specs.Log.{Entry};
-ghost use Rattle.ledger.specs.Logged.{Reckoned};
 ghost use Rattle.ledger.specs.Stands.{Stands};
 ghost use Rattle.plan.specs.View.{view};
 ghost use Rattle.listing.specs.AllRows.{works, AllWorked};
@@ -17,8 +16,8 @@ use routes::Method;
 pub fn work_all<K: Cost, Q: Queue>(plan: &mut Plan<K>, method: Method, queue: &mut Q)
     ensures rows { AllWorked K.Cost.kind method plan.old (Q.Queue.meaning queue.old) (view K.Cost.kind plan.old).ledger.stations plan.new (Q.Queue.meaning queue.new) }
     ensures logged { (start : Ledger K) (log : List (Entry K)) → Stands K.Cost.kind start log (view K.Cost.kind plan.old) → Stands K.Cost.kind start (log ++ works (view K.Cost.kind plan.old).ledger.stations method) (view K.Cost.kind plan.new) }
-    ensures marked { Reckoned K.Cost.kind (view K.Cost.kind plan.old) (λ g. (a : ℕ) → a < g.stations → (view K.Cost.kind plan.new).ledger.marked a ≡ true) }
-    ensures network { Reckoned K.Cost.kind (view K.Cost.kind plan.old) (λ g. network (view K.Cost.kind plan.new).ledger ≡ network g) }
+    ensures marked { (a : ℕ) → a < (view K.Cost.kind plan.old).ledger.stations → (view K.Cost.kind plan.new).ledger.marked a ≡ true }
+    ensures network { network (view K.Cost.kind plan.new).ledger ≡ network (view K.Cost.kind plan.old).ledger }
 {
     for source in 0..plan.counts().stations {
         // refused where the row is worked

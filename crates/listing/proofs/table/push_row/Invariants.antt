@@ -1,7 +1,6 @@
 -- The text has the lines of the stations below `to`.
 use Rattle.std.proofs.Common.{◌≡◌, ◌++◌, string_bytes}
 use Rattle.std.specs.List.{flat_map, range_with_len}
-use Rattle.ledger.specs.Logged.{Reckoned}
 use Rattle.plan.specs.View.{view}
 use Rattle.listing.specs.Lines.{pair_lines}
 use Rattle.listing.proofs.table.push_row.Given as goal
@@ -9,5 +8,4 @@ use Rattle.listing.proofs.table.push_row.Given as goal
 abbrev pub invariant-loop-to : goal.invariant-loop-to
 invariant-loop-to g l =
     let m = g.K.Cost.kind in
-    Reckoned m (view m l.plan)
-    (λ h. string_bytes l.text ≡ string_bytes l.initial.text ++ flat_map (pair_lines m (record { ledger = h; rows = (view m l.plan).rows }) l.from) (range_with_len 0 l.to))
+    string_bytes l.text ≡ string_bytes l.initial.text ++ flat_map (pair_lines m (view m l.plan) l.from) (range_with_len 0 l.to)
