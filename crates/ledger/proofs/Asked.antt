@@ -89,7 +89,7 @@ module _ {K : Type 0} {m : Kind K} (laws : Laws m) (strict : Strict m) {v : View
     none_faulty : Right m (network v.ledger) a (given m costs predecessors) → (why : Refusal) → Faulty m v.ledger a costs predecessors why → ⊥
     none_faulty right why f =
         let none = right_passes laws (zero_least_from_strict laws strict) holds.fair.between (one_per_pair (network v.ledger) holds.fair.pairs) there right in
-        true≢false (sym f.by_cause ∙ none.passes f.failing.station f.failing.cause f.station)
+        true≢false (sym f.named.fails ∙ none.passes f.failing.station f.failing.cause f.named.station)
 
   row_tested : {T : Type 0} (r : Result T Refusal) (o : Option Code) → check_refusal v.ledger a costs predecessors ≡ o
       → CheckEffect m v.ledger a costs predecessors r → CheckAnswer m v.ledger a costs predecessors r

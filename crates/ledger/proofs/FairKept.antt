@@ -1,5 +1,5 @@
 -- Links stay as a plan has them when one is laid that is not refused, and when one is taken out.
-use Rattle.std.proofs.Common.{◌≡◌, ◌≢◌, ℕ, ◌<◌, suc, List, [], ◌∷◌, length, get_or, Bool, true, false, None, ⊎_elim, if◌then◌else◌, sym, ap, ◌∙◌, arith}
+use Rattle.std.proofs.Common.{◌≡◌, ◌≢◌, ℕ, ◌<◌, suc, List, [], ◌∷◌, get_or, Bool, true, false, None, ⊎_elim, if◌then◌else◌, sym, ap, ◌∙◌, arith}
 use Rattle.std.proofs.lemmas.Bool.{cases_order, true≢false}
 use Rattle.std.proofs.lemmas.Bool.Decides.{nat_tests}
 use Rattle.std.proofs.lemmas.List.{get_or_default}
@@ -9,9 +9,9 @@ use Rattle.std.proofs.lemmas.List.Quantifiers.{all_pairs_push}
 use Rattle.std.specs.List.{All, AllPairs, Contains}
 use Rattle.cost.specs.Kind.{Kind, Same}
 use Rattle.cost.specs.declared.link.Link.{Link}
-use Rattle.routes.specs.Network.{Network, OnePerPair}
+use Rattle.routes.specs.Network.{Network, OnePerPair, leads}
 use Rattle.routes.proofs.Members.{in_later, in_first, in_cases, any_from_in}
-use Rattle.ledger.specs.Ledger.{Ledger, network, has_link, runs}
+use Rattle.ledger.specs.Ledger.{Ledger, network, has_link}
 use Rattle.ledger.specs.Refusals.{lay_refusal}
 use Rattle.ledger.specs.After.{without, after_lay, after_lift}
 use Rattle.ledger.specs.Fair.{Fair, OtherPair}
@@ -35,17 +35,17 @@ module _ {K : Type 0} where
       (λ after. absurd ((rw (has_k.2, there) at (pairs has_l.0 has_k.0 k after has_k.1)) (sym from) (sym to))))
       (cases_order has_k.0 has_l.0)
 
-  -- a link that is laid already runs from a to b by none of them
+  -- no link that is laid leads from a to b
   no_other : (g : Ledger K) (a b : ℕ) → has_link g a b ≡ false → (k : Link K) → Contains g.links k → k.from ≡ a → k.to ≡ b → ⊥
   no_other g a b none k laid from to =
-      let passes : runs a b k ≡ true = grind (arith, nat_tests) in
-      true≢false (sym (any_from_in (runs a b) g.links k laid passes) ∙ none)
+      let passes : leads a b k ≡ true = grind (arith, nat_tests) in
+      true≢false (sym (any_from_in (leads a b) g.links k laid passes) ∙ none)
 
   module _ (a b : ℕ) where
     -- what is still laid was laid
     laid_before : (ls : List (Link K)) (k : Link K) → Contains (without a b ls) k → Contains ls k
     laid_before [] k has = has
-    laid_before (l ∷ ls) k has = still (runs a b l) (λ later. in_later l ls k (laid_before ls k later)) has
+    laid_before (l ∷ ls) k has = still (leads a b l) (λ later. in_later l ls k (laid_before ls k later)) has
       where
         still : (one : Bool) → (Contains (without a b ls) k → Contains (l ∷ ls) k)
             → Contains (if one then ls else (l ∷ without a b ls)) k → Contains (l ∷ ls) k
@@ -64,7 +64,7 @@ module _ {K : Type 0} where
         let later : AllPairs OtherPair ls = λ i j d before within.
         pairs (suc i) (suc j) d (omega (arith, before)) (omega (arith, within)) in
         let first : All (OtherPair l) ls = λ k d within. pairs 0 (suc k) d (omega arith) (omega (arith, within)) in
-        elim (runs a b l) as (λ one. AllPairs OtherPair (if one then ls else (l ∷ without a b ls))) [
+        elim (leads a b l) as (λ one. AllPairs OtherPair (if one then ls else (l ∷ without a b ls))) [
           | true ↦ later
           | false ↦ AllPairs-cons OtherPair l (without a b ls) (all_without (OtherPair l) ls first) (pairs_without ls later)
         ]

@@ -1,18 +1,19 @@
 -- What an accepted call leaves in the ledger.
 --
---   without a b links    the links without the first that runs from a to b
+--   without a b links    the links without the first that leads from a to b
 --   after_lay g a b c    the link from a to b at cost c stands last; no row is marked
 --   after_lift g a b     the link from a to b is taken out; no row is marked
 --   after_work g a       row a is marked
 use Rattle.std.specs.Prelude.{ℕ, true, List, [], ◌∷◌, ◌++◌, if◌then◌else◌}
 use Rattle.cost.specs.declared.link.Link.{Link}
+use Rattle.routes.specs.Network.{leads}
 use Rattle.routes.specs.State.{written}
-use Rattle.ledger.specs.Ledger.{Ledger, runs, unmarked}
+use Rattle.ledger.specs.Ledger.{Ledger, unmarked}
 
 module _ {K : Type 0} where
   abbrev pub without : ℕ → ℕ → List (Link K) → List (Link K)
   without a b [] = []
-  without a b (l ∷ ls) = if runs a b l then ls else (l ∷ without a b ls)
+  without a b (l ∷ ls) = if leads a b l then ls else (l ∷ without a b ls)
 
   abbrev pub after_lay : Ledger K → ℕ → ℕ → K → Ledger K
   after_lay g a b c = record {

@@ -2,13 +2,12 @@
 --
 --   Ledger K             how many stations there are, how many places for links, the links in the order laid, and which rows are marked
 --   network g            its stations and links
---   runs a b l           the link l runs from a to b
---   has_link g a b       some laid link does
+--   has_link g a b       some laid link leads from a to b
 --   unmarked             no row is marked
-use Rattle.std.specs.Prelude.{ℕ, Bool, false, ◌&&◌, ◌==◌, List}
+use Rattle.std.specs.Prelude.{ℕ, Bool, false, List}
 use Rattle.std.specs.List.{list_any}
 use Rattle.cost.specs.declared.link.Link.{Link}
-use Rattle.routes.specs.Network.{Network}
+use Rattle.routes.specs.Network.{Network, leads}
 
 pub record Ledger (K : Type 0) : Type 0 where
   pub stations : ℕ
@@ -19,11 +18,8 @@ pub record Ledger (K : Type 0) : Type 0 where
 abbrev pub network : {K : Type 0} → Ledger K → Network K
 network g = record { stations = g.stations; links = g.links }
 
-abbrev pub runs : {K : Type 0} → ℕ → ℕ → Link K → Bool
-runs a b l = l.from == a && l.to == b
-
 abbrev pub has_link : {K : Type 0} → Ledger K → ℕ → ℕ → Bool
-has_link g a b = list_any (runs a b) g.links
+has_link g a b = list_any (leads a b) g.links
 
 abbrev pub unmarked : ℕ → Bool
 unmarked a = false

@@ -6,8 +6,8 @@ use Rattle.std.specs.List.{Contains, list_any}
 use Rattle.cost.specs.Kind.{Kind, FAR, Same}
 use Rattle.cost.specs.declared.link.Link.{Link}
 use Rattle.routes.proofs.Members.{in_from_any, any_from_in}
-use Rattle.routes.specs.Fails.{fails, leads, unlinked, loose, undercut, rank_at, rank_over, wrong_source, wrong_reach}
-use Rattle.routes.specs.Network.{Network}
+use Rattle.routes.specs.Fails.{fails, unlinked, loose, undercut, rank_at, rank_over, wrong_source, wrong_reach}
+use Rattle.routes.specs.Network.{Network, leads}
 use Rattle.routes.specs.Row.{Row}
 
 -- one link from p to B
@@ -66,8 +66,8 @@ module _ {K : Type 0} (m : Kind K) (net : Network K) (A : ℕ) (row : Row K) (B 
   from_unlinked None p passes is = absurd (cc is)
   from_unlinked (Some q) p passes is =
       let same : q ≡ p = cc is in
-      let some : list_any (leads m net A row q B) net.links ≡ true = grind (arith, nat_tests) in
-      let by = in_from_any (leads m net A row q B) net.links some in
+      let some : list_any (leads q B) net.links ≡ true = grind (arith, nat_tests) in
+      let by = in_from_any (leads q B) net.links some in
       let by_it : (by.0.from == q && by.0.to == B) ≡ true = by.2 in
       (grind (arith, nat_tests), record { link = by.0; laid = by.1; starts = grind (arith, nat_tests); ends = grind (arith, nat_tests) })
 
@@ -77,7 +77,7 @@ module _ {K : Type 0} (m : Kind K) (net : Network K) (A : ℕ) (row : Row K) (B 
       let within = station p refl in
       let by = linked p refl in
       let by_it : (by.link.from == p && by.link.to == B) ≡ true = let s = by.starts in let e = by.ends in grind (arith, nat_tests) in
-      let some = any_from_in (leads m net A row p B) net.links by.link by.laid by_it in
+      let some = any_from_in (leads p B) net.links by.link by.laid by_it in
       grind (arith, nat_tests)
 
   from_loose : (o : Option ℕ) (p : ℕ) → loose m net A row B o ≡ false → o ≡ Some p → (l : Link K) → Contains net.links l → l.from ≡ p → l.to ≡ B
@@ -85,7 +85,7 @@ module _ {K : Type 0} (m : Kind K) (net : Network K) (A : ℕ) (row : Row K) (B 
   from_loose None p passes is l laid starts ends = absurd (cc is)
   from_loose (Some q) p passes is l laid starts ends =
       let same : q ≡ p = cc is in
-      let some = any_from_in (λ (l : Link K). leads m net A row q B l && not (rank_over m net A row l == rank_at m net A row B)) net.links l laid in
+      let some = any_from_in (λ (l : Link K). leads q B l && not (rank_over m net A row l == rank_at m net A row B)) net.links l laid in
       grind (arith, nat_tests)
 
   fits_test : (o : Option ℕ)
@@ -94,7 +94,7 @@ module _ {K : Type 0} (m : Kind K) (net : Network K) (A : ℕ) (row : Row K) (B 
   fits_test None fits = refl
   fits_test (Some p) fits =
       false_from_ne_true _ (λ some.
-      let by = in_from_any (λ (l : Link K). leads m net A row p B l && not (rank_over m net A row l == rank_at m net A row B)) net.links some in
+      let by = in_from_any (λ (l : Link K). leads p B l && not (rank_over m net A row l == rank_at m net A row B)) net.links some in
       let by_it : ((by.0.from == p && by.0.to == B) && not (rank_over m net A row by.0 == rank_at m net A row B)) ≡ true = by.2 in
       let same = fits p refl by.0 by.1 in
       grind (arith, nat_tests))

@@ -11,7 +11,7 @@ use Rattle.std.specs.Prelude.{◌≡◌, ℕ, ◌<◌, Bool, false, not, ◌&&�
 use Rattle.std.specs.List.{list_any}
 use Rattle.cost.specs.Kind.{Kind, FAR}
 use Rattle.cost.specs.declared.link.Link.{Link}
-use Rattle.routes.specs.Network.{Network}
+use Rattle.routes.specs.Network.{Network, leads}
 use Rattle.routes.specs.Row.{Row}
 
 module _ {K : Type 0} (m : Kind K) (net : Network K) (A : ℕ) (row : Row K) where
@@ -21,9 +21,6 @@ module _ {K : Type 0} (m : Kind K) (net : Network K) (A : ℕ) (row : Row K) whe
 
   abbrev pub rank_over : Link K → ℕ
   rank_over l = m.rank (m.joined (row.costs l.from) l.cost)
-
-  abbrev pub leads : ℕ → ℕ → Link K → Bool
-  leads p B l = l.from == p && l.to == B
 
   abbrev pub wrong_source : ℕ → Bool
   wrong_source B = B == A && (not (rank_at B == m.rank m.zero) || is_some (row.predecessors B))

@@ -12,7 +12,7 @@ use Rattle.refusal.specs.declared.Failing.{Failing}
 use Rattle.routes.specs.Fails.{loose, undercut, rank_at, rank_over}
 use Rattle.routes.specs.Network.{Network}
 use Rattle.routes.specs.Row.{Row}
-use Rattle.rowcheck.specs.Answer.{Named}
+use Rattle.ledger.specs.CheckAnswer.{Named}
 use Rattle.rowcheck.specs.Links.{Looked, led, link_answer, marked}
 
 -- links between n stations

@@ -13,8 +13,8 @@ use Rattle.cost.specs.Kind.{Kind}
 use Rattle.cost.specs.declared.link.Link.{Link}
 use Rattle.refusal.specs.First.{refused_if}
 use Rattle.refusal.specs.declared.Failing.{Failing}
-use Rattle.routes.specs.Fails.{rank_at, rank_over, leads, loose, undercut}
-use Rattle.routes.specs.Network.{Network}
+use Rattle.routes.specs.Fails.{rank_at, rank_over, loose, undercut}
+use Rattle.routes.specs.Network.{Network, leads}
 use Rattle.routes.specs.Row.{Row}
 
 module _ {K : Type 0} (m : Kind K) (net : Network K) (A : ℕ) (row : Row K) where
@@ -33,7 +33,7 @@ module _ {K : Type 0} (m : Kind K) (net : Network K) (A : ℕ) (row : Row K) whe
 
   abbrev pub led : ℕ → Option ℕ → Bool
   led B None = false
-  led B (Some p) = list_any (leads m net A row p B) net.links
+  led B (Some p) = list_any (leads p B) net.links
 
   pub record Looked (found : List Bool) : Type 0 where
     pub none_undercut : (B : ℕ) → B < net.stations → undercut m net A row B ≡ false

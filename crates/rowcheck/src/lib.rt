@@ -7,7 +7,8 @@ ghost use Rattle.std.specs.Prelude.{◌≡◌, ◌↔◌, None, Some, IfSome, Ma
 ghost use Rattle.refusal.specs.First.{told};
 ghost use Rattle.ledger.specs.View.{given};
 ghost use Rattle.routes.specs.Fails.{NoneFails};
-ghost use Rattle.rowcheck.specs.Answer.{row_refusal, Named, Names};
+ghost use Rattle.ledger.specs.CheckAnswer.{Named};
+ghost use Rattle.rowcheck.specs.Answer.{row_refusal, Names};
 ghost use Rattle.rowcheck.specs.Parts.{network_of, row_of};
 
 mod links;

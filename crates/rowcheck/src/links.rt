@@ -1,6 +1,6 @@
 // Links, each of which is tested, and the stations that they lead to from their predecessors.
 ghost use Rattle.std.specs.Prelude.{◌≡◌, IfErr, IfOk, OnOk};
-ghost use Rattle.rowcheck.specs.Answer.{Named};
+ghost use Rattle.ledger.specs.CheckAnswer.{Named};
 ghost use Rattle.rowcheck.specs.Links.{Looked, link_answer, marked, unfound};
 ghost use Rattle.rowcheck.specs.Parts.{network_of, row_of};
 ghost use Rattle.rowcheck.specs.Stations.{Tested};

@@ -1,4 +1,4 @@
--- The first link that runs from one station to another: where one does, and what is left without it.
+-- The first link that leads from one station to another: where one does, and what is left without it.
 use Rattle.std.specs.Prelude.{◌≡◌, ℕ, suc, ◌+◌, ◌<◌, Bool, true, false, not, cond, ◌||◌, List, [], ◌∷◌, length, Some, None, is_some, nat_lt, if◌then◌else◌}
 use Rattle.std.specs.List.{list_any, position, position_or_len, remove}
 use Rattle.std.proofs.Common.{◌∙◌, refl, arith, sym, ap}
@@ -6,7 +6,7 @@ use Rattle.std.proofs.Math.Numerals.{one-add}
 use Rattle.std.proofs.lemmas.List.{length-take-le}
 use Rattle.std.proofs.lemmas.Bool.Decides.{nat_tests}
 use Rattle.cost.specs.declared.link.Link.{Link}
-use Rattle.ledger.specs.Ledger.{runs}
+use Rattle.routes.specs.Network.{leads}
 use Rattle.ledger.specs.After.{without}
 
 one_more : (b rest : Bool) (k n : ℕ) → rest ≡ nat_lt k n → (b || rest) ≡ nat_lt (cond (not b) (1 + k) 0) (suc n)
@@ -35,12 +35,12 @@ module _ {K : Type 0} (a b : ℕ) where
   one_less true l ls k later fits = refl
   one_less false l ls k later fits = rw (later (omega arith), one-add k) refl
 
-  without_first : (links : List (Link K)) → position_or_len (runs a b) links < length links → without a b links ≡ remove links (position_or_len (runs a b) links)
+  without_first : (links : List (Link K)) → position_or_len (leads a b) links < length links → without a b links ≡ remove links (position_or_len (leads a b) links)
   without_first [] fits = absurd (omega (arith, fits))
-  without_first (l ∷ ls) fits = one_less (runs a b l) l ls (position_or_len (runs a b) ls) (without_first ls) fits
+  without_first (l ∷ ls) fits = one_less (leads a b l) l ls (position_or_len (leads a b) ls) (without_first ls) fits
 
-  pub without_found : (links : List (Link K)) (k : ℕ) → position (runs a b) links ≡ Some k → (k < length links) × (without a b links ≡ remove links k)
+  pub without_found : (links : List (Link K)) (k : ℕ) → position (leads a b) links ≡ Some k → (k < length links) × (without a b links ≡ remove links k)
   without_found links k found =
-      let at = where_some (nat_lt (position_or_len (runs a b) links) (length links)) (position_or_len (runs a b) links) k found in
-      let fits : position_or_len (runs a b) links < length links = grind (arith, nat_tests) in
+      let at = where_some (nat_lt (position_or_len (leads a b) links) (length links)) (position_or_len (leads a b) links) k found in
+      let fits : position_or_len (leads a b) links < length links = grind (arith, nat_tests) in
       (omega (arith, fits, at.1), without_first links fits ∙ ap (remove links) at.1)

@@ -2,7 +2,8 @@
 ghost use Rattle.std.specs.Prelude.{◌≡◌, [], ◌∷◌, ◌++◌, ◌<◌, ◌≤◌, ◌+◌, ◌-◌, IfOk, OnOk, OnErr, length};
 ghost use Rattle.std.specs.List.{position, remove, copy_within, CopiedTo, SameBelow};
 ghost use Rattle.refusal.specs.First.{told};
-ghost use Rattle.ledger.specs.Ledger.{runs, unmarked};
+ghost use Rattle.ledger.specs.Ledger.{unmarked};
+ghost use Rattle.routes.specs.Network.{leads};
 ghost use Rattle.ledger.specs.Refusals.{lay_refusal, lift_refusal, no_link_cost};
 ghost use Rattle.ledger.specs.After.{after_lay, after_lift};
 ghost use Rattle.ledger.specs.Effects.{LayEffect, LiftEffect};
@@ -71,7 +72,7 @@ impl<'a, K: Cost> Tables<'a, K> {
     #[tactic(auto, using(crate::proofs::Finding::found))]
     fn laid_place(&self, from: u16, to: u16) -> Result<usize, Refusal>
         ensures refused { told result ≡ lift_refusal (ledger_of self.now) from to }
-        ensures place { IfOk result (λ p. position (runs from to) (ledger_of self.now).links ≡ Some p) }
+        ensures place { IfOk result (λ p. position (leads from to) (ledger_of self.now).links ≡ Some p) }
     {
         if from >= self.stations || to >= self.stations {
             return Err(Refusal::NoStation);
@@ -81,7 +82,7 @@ impl<'a, K: Cost> Tables<'a, K> {
 
     // The place of the link from one station to another, if one is laid.
     fn find_link(&self, from: u16, to: u16) -> Option<usize>
-        ensures value { result ≡ position (runs from to) (ledger_of self.now).links }
+        ensures value { result ≡ position (leads from to) (ledger_of self.now).links }
     {
         self.list.cells[..self.count as usize]
             .iter()
