@@ -11,33 +11,11 @@ for it.
 import pathlib
 import random
 
-TOP = 2**64 - 1
-FAR = TOP
+from model import CAMPUS_H, CAMPUS_J, FAR, RANGES, TOP, Free, Refused, join, least_costs, named_kind, parse_file, plan_file, told
+
 OLD = 9
 FREE = "free"
-BYTES = {"sum": 0, "split": 1}
-RANGES = {"sum": (1, 1_000_000_000), "split": (2, 64)}
-ZERO = {"sum": 0, "split": 1}
 MOST_LINES = 40
-
-
-class Refused(Exception):
-    """A call is refused; the numbers are what it tells."""
-
-    def __str__(self):
-        return " ".join(map(str, ("refused",) + self.args))
-
-
-class Free(Exception):
-    """The rules leave the answer free."""
-
-
-def join(kind, a, b):
-    return min(a + b if kind == "sum" else a * b, FAR)
-
-
-def told(cost):
-    return "far" if cost == FAR else str(cost)
 
 
 def joined(lines):
@@ -47,63 +25,8 @@ def joined(lines):
     return " | ".join(lines[:MOST_LINES] + [f".. {lines[-1]}, {len(lines)} lines"])
 
 
-# Plan files
-
-
-def plan_file(kind, stations, links, *, mark=b"CPL", version=1, byte=None, count=None):
-    """A plan file, with any part of its header replaced."""
-    out = mark + version.to_bytes(2, "big") + bytes([BYTES[kind] if byte is None else byte])
-    out += stations.to_bytes(2, "big") + (len(links) if count is None else count).to_bytes(2, "big")
-    for a, b, cost in links:
-        out += a.to_bytes(2, "big") + b.to_bytes(2, "big") + cost.to_bytes(8, "big")
-    return out
-
-
-def parse_file(kind, data, places, cells):
-    """The stations and links of a file that is read into a list of so many places and tables of so many cells, or its first refusal."""
-    number = lambda part: int.from_bytes(part, "big")
-    if places not in range(1, 4097):
-        raise Refused(2)
-    if len(data) < 10:
-        raise Refused(15)
-    if data[:3] != b"CPL":
-        raise Refused(16)
-    if number(data[3:5]) != 1:
-        raise Refused(17)
-    if data[5] != BYTES[kind]:
-        raise Refused(18)
-    stations, count = number(data[6:8]), number(data[8:10])
-    if stations not in range(1, 257) or count > places or any(held < stations**2 for held in cells):
-        raise Refused(19)
-    if len(data) != 10 + 12 * count:
-        raise Refused(20)
-    records = [data[10 + 12 * k : 22 + 12 * k] for k in range(count)]
-    links = [(number(r[:2]), number(r[2:4]), number(r[4:])) for r in records]
-    low, high = RANGES[kind]
-    pairs = set()
-    for index, (a, b, cost) in enumerate(links):
-        faults = {21: not low <= cost <= high, 3: max(a, b) >= stations, 4: a == b, 6: (a, b) in pairs}
-        for fault, fits in faults.items():
-            if fits:
-                raise Refused(22, index, fault)
-        pairs.add((a, b))
-    return stations, links
-
-
-def least_costs(kind, stations, links, source):
-    """The least costs from a source, by going over all links until nothing falls any more."""
-    costs = [FAR] * stations
-    costs[source] = ZERO[kind]
-    before = None
-    while before != costs:
-        before = list(costs)
-        for a, b, cost in links:
-            costs[b] = min(costs[b], join(kind, costs[a], cost))
-    return costs
-
-
 def report(data):
-    kind = "split" if len(data) > 5 and data[5] == 1 else "sum"
+    kind = named_kind(data)
     try:
         stations, links = parse_file(kind, data, 512, (4096, 4096))
     except Refused as refused:
@@ -344,8 +267,6 @@ class Table:
         self.say(f"report {data.hex()}", report(data))
 
 
-CAMPUS_H = [(0, 1, 4), (0, 2, 1), (2, 1, 2), (1, 3, 5), (2, 3, 8)]
-CAMPUS_J = [(0, 1, 1), (0, 2, 1), (1, 6, 1), (6, 3, 1), (2, 7, 1), (7, 4, 1), (3, 5, 1), (4, 5, 1), (2, 3, 2), (1, 4, 2)]
 ONE = plan_file("sum", 2, [(0, 1, 7)])
 BOTH = plan_file("sum", 2, [(0, 1, 7), (1, 0, 9)])
 WORKED = "make 3; replay 1 0, lay 0 1 7; replay 1 0, work 0 plain"

@@ -10,18 +10,7 @@ Run it in the repository's root. It knows nothing of the Rattle code: files and 
 import pathlib
 import random
 
-RANGES = {"sum": (1, 1_000_000_000), "split": (2, 64)}
-BYTES = {"sum": 0, "split": 1}
-TOP = 2**64 - 1
-
-
-def plan(kind, stations, links, *, mark=b"CPL", version=1, byte=None, count=None):
-    """A plan file, with any part of its header replaced."""
-    out = mark + version.to_bytes(2, "big") + bytes([BYTES[kind] if byte is None else byte])
-    out += stations.to_bytes(2, "big") + (len(links) if count is None else count).to_bytes(2, "big")
-    for a, b, cost in links:
-        out += a.to_bytes(2, "big") + b.to_bytes(2, "big") + cost.to_bytes(8, "big")
-    return out
+from model import BYTES, RANGES, TOP, plan_file as plan
 
 
 def faults_of(kind, stations, links):

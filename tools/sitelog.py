@@ -13,24 +13,10 @@ asks for it.
 import pathlib
 import random
 
-TOP = 2**64 - 1
-FAR = TOP
+from model import CAMPUS_H, CAMPUS_J, FAR, RANGES, TOP, ZERO, Free, Refused, join, least_costs, named_kind, parse_file, plan_file, told
+
 NONE = 65535
-BYTES = {"sum": 0, "split": 1}
 WHITE = b" \t\r\f"  # white space of ASCII, but for byte 10, which ends a line
-RANGES = {"sum": (1, 1_000_000_000), "split": (2, 64)}
-ZERO = {"sum": 0, "split": 1}
-
-
-class Refused(Exception):
-    """A call is refused; the numbers are what it tells."""
-
-    def __str__(self):
-        return " ".join(map(str, ("refused",) + self.args))
-
-
-class Free(Exception):
-    """The rules leave the answer free."""
 
 
 class NotUnderstood(Exception):
@@ -39,51 +25,6 @@ class NotUnderstood(Exception):
 
 def rank(kind, stored):
     return FAR if kind == "split" and stored == 0 else stored
-
-
-def join(kind, a, b):
-    return min(a + b if kind == "sum" else a * b, FAR)
-
-
-# Plan files
-
-
-def plan_file(kind, stations, links, *, mark=b"CPL", version=1, byte=None, count=None):
-    """A plan file, with any part of its header replaced."""
-    out = mark + version.to_bytes(2, "big") + bytes([BYTES[kind] if byte is None else byte])
-    out += stations.to_bytes(2, "big") + (len(links) if count is None else count).to_bytes(2, "big")
-    for a, b, cost in links:
-        out += a.to_bytes(2, "big") + b.to_bytes(2, "big") + cost.to_bytes(8, "big")
-    return out
-
-
-def parse_file(data, places):
-    """The kind, the stations and the links of a file, or its first refusal."""
-    kind = "split" if len(data) > 5 and data[5] == 1 else "sum"
-    if len(data) < 10:
-        raise Refused(15)
-    if data[:3] != b"CPL":
-        raise Refused(16)
-    if data[3:5] != b"\x00\x01":
-        raise Refused(17)
-    if data[5] != BYTES[kind]:
-        raise Refused(18)
-    number = lambda part: int.from_bytes(part, "big")
-    stations, count = number(data[6:8]), number(data[8:10])
-    if stations not in range(1, 257) or count > places:
-        raise Refused(19)
-    if len(data) != 10 + 12 * count:
-        raise Refused(20)
-    records = [data[10 + 12 * k : 22 + 12 * k] for k in range(count)]
-    links = [(number(r[:2]), number(r[2:4]), number(r[4:])) for r in records]
-    low, high = RANGES[kind]
-    pairs = set()
-    for index, (a, b, cost) in enumerate(links):
-        for number, fault in ((21, not low <= cost <= high), (3, max(a, b) >= stations), (4, a == b), (6, (a, b) in pairs)):
-            if fault:
-                raise Refused(22, index, number)
-        pairs.add((a, b))
-    return kind, stations, links
 
 
 # Plans
@@ -124,15 +65,7 @@ class Plan:
         self.rows = {}
 
     def least(self, source):
-        """The least costs from a source, by going over all links until nothing falls any more."""
-        costs = [FAR] * self.stations
-        costs[source] = ZERO[self.kind]
-        before = None
-        while before != costs:
-            before = list(costs)
-            for a, b, cost in self.links:
-                costs[b] = min(costs[b], join(self.kind, costs[a], cost))
-        return costs
+        return least_costs(self.kind, self.stations, self.links, source)
 
     def work(self, source, method):
         self.need(source)
@@ -296,10 +229,6 @@ def parse(line):
     raise NotUnderstood
 
 
-def told(cost):
-    return "far" if cost == FAR else str(cost)
-
-
 class Log:
     """Lines of the input, those of the output, both in bytes, and the plan that they leave."""
 
@@ -318,7 +247,8 @@ class Log:
     def answer_read(self, path):
         if path not in self.files:
             raise NotUnderstood
-        kind, stations, links = parse_file(self.files[path], 4096)
+        kind = named_kind(self.files[path])
+        stations, links = parse_file(kind, self.files[path], 4096, (65536, 65536))
         self.plan = Plan(kind, stations, 4096, links)
         return f"accepted {kind} {stations} {len(links)}"
 
@@ -405,8 +335,6 @@ def pair_line(a, b, cost):
 
 # The plans of the log
 
-CAMPUS_H = [(0, 1, 4), (0, 2, 1), (2, 1, 2), (1, 3, 5), (2, 3, 8)]
-CAMPUS_J = [(0, 1, 1), (0, 2, 1), (1, 6, 1), (6, 3, 1), (2, 7, 1), (7, 4, 1), (3, 5, 1), (4, 5, 1), (2, 3, 2), (1, 4, 2)]
 OUTLETS = [(0, 1, 8), (0, 2, 64), (1, 3, 4), (2, 3, 2), (3, 4, 16), (4, 5, 2)]
 
 
