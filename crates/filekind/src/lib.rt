@@ -8,5 +8,5 @@ mod named;
 mod range;
 
 pub use kind::FileKind;
-pub use named::{Kind, UnknownKind};
+pub use named::{Kind, UnknownKind, bytes_name_one};
 pub use range::LinkRange;

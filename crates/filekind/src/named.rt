@@ -1,6 +1,7 @@
 // The delivered file kinds by name, for what learns the kind as it runs.
-ghost use Rattle.std.specs.Prelude.{◌≡◌, slice_index};
+ghost use Rattle.std.specs.Prelude.{◌≡◌, ℕ, Result, slice_index};
 ghost use Rattle.filekind.specs.declared.named.Kind.{Kind};
+ghost use Rattle.filekind.specs.declared.named.UnknownKind.{UnknownKind};
 ghost use Rattle.filekind.specs.Named.{Names, byte_of, kind_of};
 
 use super::kind::FileKind;
@@ -46,3 +47,8 @@ impl Kind {
         Kind::try_from(*byte).unwrap_or(Kind::Sum)
     }
 }
+
+// A byte names one kind, or is told to name none.
+pub fn bytes_name_one()
+    ensures one { (byte : ℕ) (r other : Result Kind UnknownKind) → Names byte r → Names byte other → r ≡ other }
+{}

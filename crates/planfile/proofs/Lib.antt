@@ -9,3 +9,4 @@ pub mod Seen
 pub mod Soundness
 pub mod Stored
 pub mod WritingTests
+pub mod WorkedFile

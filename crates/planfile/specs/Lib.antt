@@ -9,3 +9,4 @@ pub mod Sound
 pub mod Writing
 pub mod RoundTrip
 pub mod Text
+pub mod Worked

@@ -1,6 +1,6 @@
 -- Both ways: what reading and writing are to each other.
 --
---   Holds m f n links bs      the file bs holds the plan: it is its encoding, the plan is sound, no link costs zero, and writing
+--   Holds m f n links bs      the file bs holds the plan: it is its encoding, the plan is sound, no link costs zero or FAR, and writing
 --                             the plan into any buffer that is long enough is not refused, so that it gives bs again
 --   Accepts f places bs ok    ok, whether reading bs was accepted, is true wherever bs is the encoding of a sound plan and
 --                             the list, of 1 to 4,096 places, has a place for each of its links
@@ -26,6 +26,7 @@ pub record Holds {K : Type 0} (m : Kind K) (f : Format) (n : ℕ) (links : List 
   pub encoded : file_of m f n links ≡ bs
   pub sound : Sound f n (map (fields_of m) links)
   pub none_free : All (λ l. Below m m.zero l.cost) links
+  pub none_far : All (λ l. Below m l.cost m.far) links
   pub writable : (room : ℕ) → length bs ≤ room → writing_refusal m f n links room ≡ None
 
 abbrev pub Accepts : Format → ℕ → List ℕ → Bool → Type 0

@@ -1,5 +1,6 @@
 // A record's fields, between its bytes and its link.
 ghost use Rattle.std.specs.Prelude.{◌≡◌};
+ghost use Rattle.cost.specs.declared.link.Link.{Link};
 ghost use Rattle.planfile.specs.Records.{field_bytes, fields_of, first_fields, link_of};
 
 use cost::{Cost, Link};
@@ -65,3 +66,9 @@ impl<K: Cost> From<Fields> for Link<K> {
         }
     }
 }
+
+// The fields of a link stand for a link that has them: each cost is formed from its number, also FAR.
+#[tactic(auto, using(crate::proofs::BothWays::link_again))]
+pub fn links_have_fields<K: Cost>()
+    ensures again { (l : Link K) → fields_of K.kind (link_of K.kind K.formed (fields_of K.kind l)) ≡ fields_of K.kind l }
+{}

@@ -10,10 +10,12 @@ mod header;
 mod pairs;
 mod reading;
 mod record;
+mod worked;
 mod writing;
 
 pub use counts::Counts;
-pub use fields::Fields;
+pub use fields::{Fields, links_have_fields};
 pub use header::read_counts;
 pub use reading::read;
+pub use worked::worked_file;
 pub use writing::write;

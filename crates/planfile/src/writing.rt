@@ -1,13 +1,14 @@
 // The file layer, writing: a header, then a record for each link, into a buffer.
-ghost use Rattle.std.specs.Prelude.{◌≡◌, ◌+◌, ◌*◌, ◌≤◌, ◌<◌, ◌++◌, map, length, take, drop, is_ok, IfOk, IfSome, if◌then◌else◌};
+ghost use Rattle.std.specs.Prelude.{◌≡◌, ℕ, ◌+◌, ◌*◌, ◌≤◌, ◌<◌, true, List, ◌++◌, map, length, take, drop, is_ok, IfOk, IfSome, if◌then◌else◌};
 ghost use Rattle.std.specs.List.{flat_map};
 ghost use Rattle.refusal.specs.First.{told};
 ghost use Rattle.planfile.specs.Encoding.{file_of, header};
 ghost use Rattle.planfile.specs.Fronted.{fronted};
 ghost use Rattle.planfile.specs.Records.{field_bytes, fields_of};
-ghost use Rattle.planfile.specs.RoundTrip.{ReadsBack, Unambiguous};
+ghost use Rattle.planfile.specs.RoundTrip.{PlanFits, ReadsBack, Unambiguous};
 ghost use Rattle.planfile.specs.Sound.{Sound};
 ghost use Rattle.planfile.specs.Writing.{writing_refusal};
+ghost use Rattle.planfile.specs.declared.fields.Fields.{Fields};
 
 use super::field::CostField;
 use super::fields::Fields;
@@ -26,6 +27,8 @@ pub fn write<K: FileKind>(
     ensures value { IfOk result (λ l. l ≡ length (file_of K.Cost.kind K.FileKind.format stations links.now)) }
     ensures after { buffer.new ≡ (if is_ok result then fronted (file_of K.Cost.kind K.FileKind.format stations links.now) buffer.old else buffer.old) }
     ensures reads_back { IfOk result (λ l. Sound K.FileKind.format stations (map (fields_of K.Cost.kind) links.now) → ReadsBack K.Cost.kind K.Cost.formed K.FileKind.format stations links.now (take l buffer.new)) }
+    ensures accepts { Sound K.FileKind.format stations (map (fields_of K.Cost.kind) links.now) → length (file_of K.Cost.kind K.FileKind.format stations links.now) ≤ length buffer.old → is_ok result ≡ true }
+    ensures fits { (n : ℕ) (xs : List Fields) → Sound K.FileKind.format n xs → PlanFits n xs }
     ensures unambiguous { Unambiguous K.FileKind.format }
 {
     let field = CostField::<K>::new();

@@ -22,4 +22,4 @@ returns-clause-holds g c =
     let list = c.args.list.now in
     let told = c.in_ok-counts.ensures in
     rw (c.store.ensures.after, told.records, told.value, links_first m formed bs (drop (length c.in_ok-counts.records.now) list))
-    (file_holds m formed g.met.K.Cost.numbered g.K.FileKind.format c.new-field.result.range c.new-field.result.ranged (length list) bs (rw (← told.refused)) (rw told.value at told.encoded))
+    (file_holds m formed g.met.K.Cost.numbered g.met.K.Cost.lawful g.K.FileKind.format c.new-field.result.range c.new-field.result.ranged (length list) bs (rw (← told.refused)) (rw told.value at told.encoded))

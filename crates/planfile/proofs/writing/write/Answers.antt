@@ -4,11 +4,22 @@ use Rattle.std.proofs.lemmas.List.{length-map, take_at}
 use Rattle.std.specs.List.{flat_map}
 use Rattle.planfile.specs.Encoding.{file_of, header}
 use Rattle.planfile.specs.Records.{field_bytes, fields_of}
-use Rattle.planfile.proofs.BothWays.{reads_back, unambiguous}
+use Rattle.planfile.proofs.BothWays.{plan_fits, reads_back, unambiguous, writable}
 use Rattle.planfile.proofs.FileBytes.{length-file}
 use Rattle.planfile.proofs.RecordBytes.{length-records}
 use Rattle.planfile.proofs.Stored.{assembled}
 use Rattle.planfile.proofs.writing.write.Goals as goal
+
+pub returns-in_err-len-clause-accepts : goal.returns-in_err-len-clause-accepts
+returns-in_err-len-clause-accepts g c sound enough =
+    let none = writable g.K.Cost.kind g.K.FileKind.format c.args.stations c.args.links.now (length c.args.buffer.now) sound enough in
+    cc (c.in_err-len.ensures.refused)
+
+pub returns-in_err-len-clause-fits : goal.returns-in_err-len-clause-fits
+returns-in_err-len-clause-fits g c n xs sound = plan_fits g.K.FileKind.format n xs c.new-field.result.ranged.far_out sound
+
+pub returns-clause-fits : goal.returns-clause-fits
+returns-clause-fits g c n xs sound = plan_fits g.K.FileKind.format n xs c.new-field.result.ranged.far_out sound
 
 pub returns-in_err-len-clause-unambiguous : goal.returns-in_err-len-clause-unambiguous
 returns-in_err-len-clause-unambiguous g c = unambiguous g.K.FileKind.format
