@@ -1,2 +1,3 @@
 pub mod DrainSteps
 pub mod EachOnce
+pub mod DrainedPlaces
