@@ -4,6 +4,7 @@ pub mod JoinedWalks
 pub mod OneLeast
 pub mod RightRows
 pub mod Chains
+pub mod RoutePlaces
 pub mod Tested
 pub mod Checked
 pub mod RightChains
@@ -22,4 +23,5 @@ pub mod FairPruned
 pub mod FairOffers
 pub mod Ends
 pub mod PlainOrder
+pub mod ByHand
 pub mod WorkedRuns

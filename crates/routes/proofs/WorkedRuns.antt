@@ -1,81 +1,54 @@
 -- The six stations are what the theorems speak of: their links are sound, the worked rows right, and the steps those of whole runs.
-use Rattle.std.proofs.Common.{Option, is_some, is_none, nat_le, None, append_assoc, ◌≡◌, ◌≢◌, ℕ, ◌<◌, Bool, true, false, not, ◌&&◌, ◌||◌, ◌==◌, nat_lt, ⊎_elim, List, [], ◌∷◌, ◌++◌, Some, refl, ap, subst, sym, arith, rules}
-use Rattle.std.specs.List.{fold, Contains, list_all, range_with_len}
+use Rattle.std.proofs.Common.{Option, is_some, is_none, nat_le, None, append_assoc, ◌≡◌, ◌≢◌, ℕ, ◌<◌, Bool, true, not, ◌&&◌, ◌||◌, ◌==◌, ⊎_elim, List, [], ◌∷◌, ◌++◌, Some, refl, ap, subst, sym, arith}
+use Rattle.std.specs.List.{fold, list_all, range_with_len}
 use Rattle.std.proofs.lemmas.Bool.{cases_eq, leb-true, and_parts, ne_eqb}
 use Rattle.std.proofs.lemmas.Bool.Decides.{nat_tests}
 use Rattle.std.proofs.lemmas.List.{append-nil}
-use Rattle.std.proofs.lemmas.List.Elements.{All-contains}
-use Rattle.std.proofs.lemmas.List.Sums.{AllPass-from_list_all}
-use Rattle.cost.specs.Laws.{Laws, Strict}
 use Rattle.cost.specs.Sum.{sum_kind}
 use Rattle.cost.specs.declared.link.Link.{Link}
 use Rattle.cost.specs.declared.sum.Sum.{Sum}
+use Rattle.queue.specs.Drained.{times}
 use Rattle.queue.specs.Meaning.{Lowest}
-use Rattle.routes.specs.Network.{Between, OnePerPair, NoneFree}
+use Rattle.routes.specs.Network.{Network, Between, OnePerPair, NoneFree}
 use Rattle.routes.specs.Row.{Row, Right}
-use Rattle.routes.specs.Fails.{fails, wrong_source, wrong_reach, unlinked, loose, undercut}
+use Rattle.routes.specs.Walk.{stay}
 use Rattle.routes.specs.Task.{Task, Workable, RowsRight}
 use Rattle.routes.specs.State.{State}
 use Rattle.routes.specs.Runs.{followed, Reached, Run, start, next}
-use Rattle.routes.specs.Six.{six, row_of_zero, row_of_two, two_worked, both_worked, to_work, after}
+use Rattle.routes.specs.Taken.{no_later, of_lowest, all_lowest}
+use Rattle.routes.specs.Six.{six, row_of_zero, row_of_two, two_worked, both_worked, five_wrong, odd, lone, to_work, after}
 use Rattle.routes.specs.declared.method.Method.{Method}
 use Rattle.routes.specs.declared.method.Method.TheVariants.{Plain, Reuse, Prune}
 use Rattle.routes.proofs.Costs.{zero_least_from_strict}
 use Rattle.routes.proofs.Members.{in_range}
 use Rattle.routes.proofs.Takings.{reached_standing}
-use Rattle.routes.proofs.Checked.{passes_right}
-
-sum_laws : Laws sum_kind
-sum_laws = search rules
-
-sum_strict : Strict sum_kind
-sum_strict = search rules
-
--- what is tested of all elements holds of each
-each_passes : {X : Type 0} (p : X → Bool) (xs : List X) → list_all p xs ≡ true → (x : X) → Contains xs x → p x ≡ true
-each_passes p xs all x has = All-contains (λ y. p y ≡ true) xs x (AllPass-from_list_all p xs all) has
-
-six_between : Between six
-six_between l laid =
-    let test = each_passes (λ (l : Link Sum). nat_lt l.from 6 && nat_lt l.to 6) six.links refl l laid in
-    (grind (arith, nat_tests), grind (arith, nat_tests))
-
-six_none_free : NoneFree sum_kind six
-six_none_free l laid same = let test = each_passes (λ (l : Link Sum). not (sum_kind.rank l.cost == 0)) six.links refl l laid in grind (arith, nat_tests)
+use Rattle.routes.proofs.ByHand.{each_passes, sum_laws, sum_strict, between_of, none_free_of, right_by_hand}
 
 -- a link is told by where it begins and ends
 abbrev same_link : Link Sum → Link Sum → Bool
 same_link k l = not (k.from == l.from && k.to == l.to) || k.cost.picoseconds == l.cost.picoseconds
 
-six_one_per_pair : OnePerPair six
-six_one_per_pair k l laid_k laid_l from to =
-    let test = each_passes (same_link k) six.links (each_passes (λ k. list_all (same_link k) six.links) six.links refl k laid_k) l laid_l in
+one_per_pair_of : (net : Network Sum) → list_all (λ k. list_all (same_link k) net.links) net.links ≡ true → OnePerPair net
+one_per_pair_of net all k l laid_k laid_l from to =
+    let test = each_passes (same_link k) net.links (each_passes (λ k. list_all (same_link k) net.links) net.links all k laid_k) l laid_l in
     let cost : k.cost.picoseconds ≡ l.cost.picoseconds = grind (arith, nat_tests) in
     λ i. record { from = from i; to = to i; cost = record { picoseconds = cost i } }
 
+six_between : Between six
+six_between = between_of six refl
+
+six_none_free : NoneFree sum_kind six
+six_none_free = none_free_of six sum_kind refl
+
+pub lone_sound : Between lone × OnePerPair lone × NoneFree sum_kind lone
+lone_sound = (between_of lone refl, one_per_pair_of lone refl, none_free_of lone sum_kind refl)
+
 pub links_sound : Between six × OnePerPair six × NoneFree sum_kind six
-links_sound = (six_between, six_one_per_pair, six_none_free)
-
--- a row of which no station fails by any of the five tests is right
-abbrev passes : ℕ → Row Sum → ℕ → Bool
-passes A row B = list_all (λ cause. not (fails sum_kind six A row B cause)) (range_with_len 1 5)
-
-numbers_pass : (a b c d e : Bool) (cause : ℕ)
-    → list_all (λ k. not ((k == 1 && a) || (k == 2 && b) || (k == 3 && c) || (k == 4 && d) || (k == 5 && e))) (range_with_len 1 5) ≡ true
-    → ((cause == 1 && a) || (cause == 2 && b) || (cause == 3 && c) || (cause == 4 && d) || (cause == 5 && e)) ≡ false
-numbers_pass a b c d e cause none = grind (arith, nat_tests)
-
-row_right : (A : ℕ) (row : Row Sum) → A < 6 → list_all (passes A row) (range_with_len 0 6) ≡ true → Right sum_kind six A row
-row_right A row there all =
-    passes_right sum_laws sum_strict six_between six_none_free there (record {
-      passes = λ B cause within.
-          numbers_pass (wrong_source sum_kind six A row B) (wrong_reach sum_kind six A row B) (unlinked sum_kind six A row B (row.predecessors B))
-          (loose sum_kind six A row B (row.predecessors B)) (undercut sum_kind six A row B) cause
-          (each_passes (passes A row) (range_with_len 0 6) all B (in_range 6 B within));
-    })
+links_sound = (six_between, one_per_pair_of six refl, six_none_free)
 
 pub rows_right : Right sum_kind six 0 row_of_zero × Right sum_kind six 2 row_of_two
-rows_right = (row_right 0 row_of_zero (omega arith) refl, row_right 2 row_of_two (omega arith) refl)
+rows_right =
+    (right_by_hand sum_laws sum_strict six_between six_none_free (omega arith) refl, right_by_hand sum_laws sum_strict six_between six_none_free (omega arith) refl)
 
 -- a worked row is one of these
 read_right : (rows : ℕ → Option (Row Sum)) (t A : ℕ) (row found : Row Sum) → t ≡ A → rows A ≡ Some found → Right sum_kind six A found → rows t ≡ Some row → Right sum_kind six t row
@@ -103,20 +76,23 @@ two_sound method xs = record { right = λ t row on_it. two_read t row }
 pub both_sound : (method : Method) (xs : List ℕ) → RowsRight sum_kind (to_work method both_worked) xs
 both_sound method xs = record { right = λ t row on_it. both_read t row }
 
+-- row 5 is wrong, but its station is not among these
+pub five_sound : (method : Method) → RowsRight sum_kind (to_work method five_wrong) (0 ∷ 2 ∷ 1 ∷ 3 ∷ 4 ∷ [])
+five_sound method = record {
+  right = λ t row on_it is. ⊎_elim
+      (λ (five : t ≡ 5). let none = ap (λ (u : ℕ). times u (0 ∷ 2 ∷ 1 ∷ 3 ∷ 4 ∷ [])) five in absurd (omega arith))
+      (λ (other : t ≢ 5). both_read t row (rw (ne_eqb t 5 other) at is))
+      (cases_eq t 5);
+}
+
+pub five_not_right : Right sum_kind six 5 row_of_zero → ⊥
+five_not_right right = let zero = (right.least 5 (omega arith)).none_less stay in omega arith
+
 pub source_sound : (method : Method) (rows : ℕ → Option (Row Sum)) → Workable (to_work method rows)
 source_sound method rows = record { source_there = omega arith; between = six_between }
 
--- whether a station may be taken, and whether stations may be taken one after the other until nobody waits: as tests of the six
-abbrev may_wait_behind : Option ℕ → Option ℕ → Bool
-may_wait_behind (Some x) (Some y) = nat_le x y
-may_wait_behind x y = true
-
-abbrev may_take : State Sum → ℕ → Bool
-may_take s t = is_some (s.queue.ranks t) && list_all (λ v. may_wait_behind (s.queue.ranks t) (s.queue.ranks v)) (range_with_len 0 6)
-
-abbrev may_take_all : Task Sum → State Sum → List ℕ → Bool
-may_take_all task s [] = list_all (λ v. is_none (s.queue.ranks v)) (range_with_len 0 6)
-may_take_all task s (t ∷ ts) = may_take s t && may_take_all task (followed sum_kind task s t) ts
+pub odd_sound : (method : Method) (rows : ℕ → Option (Row Sum)) → Workable (record { network = odd; rows = rows; source = 1; method = method })
+odd_sound method rows = record { source_there = omega arith; between = between_of odd refl }
 
 module _ (method : Method) (rows : ℕ → Option (Row Sum)) where
   abbrev task : Task Sum
@@ -127,18 +103,18 @@ module _ (method : Method) (rows : ℕ → Option (Row Sum)) where
   six_wait reached v waits = ((reached_standing sum_laws (zero_least_from_strict sum_laws sum_strict) (source_sound method rows) reached).1.waiting v waits).0
 
   lowest_of : {xs : List ℕ} {s : State Sum} → Reached sum_kind task xs s → (t : ℕ) (q : Option ℕ) → s.queue.ranks t ≡ q
-      → (is_some q && list_all (λ v. may_wait_behind q (s.queue.ranks v)) (range_with_len 0 6)) ≡ true → Lowest s.queue t
+      → (is_some q && list_all (λ v. no_later q (s.queue.ranks v)) (range_with_len 0 6)) ≡ true → Lowest s.queue t
   lowest_of reached t None at may = absurd (cc may)
   lowest_of {s = s} reached t (Some x) at may = record {
     rank = x;
     waits = at;
     least = λ v y waits.
-        let test = each_passes (λ v. may_wait_behind (Some x) (s.queue.ranks v)) (range_with_len 0 6) may v (in_range 6 v (six_wait reached v (ap is_some waits))) in
+        let test = each_passes (λ v. no_later (Some x) (s.queue.ranks v)) (range_with_len 0 6) may v (in_range 6 v (six_wait reached v (ap is_some waits))) in
         let le : nat_le x y ≡ true = rw waits at test in
         leb-true x y le;
   }
 
-  run_on : (ts : List ℕ) {xs : List ℕ} {s : State Sum} → Reached sum_kind task xs s → may_take_all task s ts ≡ true → Run sum_kind task (xs ++ ts) (fold (followed sum_kind task) s ts)
+  run_on : (ts : List ℕ) {xs : List ℕ} {s : State Sum} → Reached sum_kind task xs s → all_lowest 6 (followed sum_kind task) s ts ≡ true → Run sum_kind task (xs ++ ts) (fold (followed sum_kind task) s ts)
   run_on [] {xs} {s} reached may =
       rw (append-nil xs) (record {
         reached = reached;
@@ -149,7 +125,7 @@ module _ (method : Method) (rows : ℕ → Option (Row Sum)) where
       none_waits None test = refl
       none_waits (Some x) test = absurd (cc (test refl))
   run_on (t ∷ ts) {xs} {s} reached may =
-      let parts = and_parts (may_take s t) (may_take_all task (followed sum_kind task s t) ts) may in
+      let parts = and_parts (of_lowest 6 s t) (all_lowest 6 (followed sum_kind task) (followed sum_kind task s t) ts) may in
       subst (λ (zs : List ℕ). Run sum_kind task zs (fold (followed sum_kind task) s (t ∷ ts))) (append_assoc xs (t ∷ []) ts)
       (run_on ts (next reached (lowest_of reached t (s.queue.ranks t) refl parts.0)) parts.1)
 
@@ -166,4 +142,4 @@ pub prune_run : Run sum_kind (to_work Prune both_worked) (0 ∷ 2 ∷ 1 ∷ 3 �
 prune_run = run_on Prune both_worked (0 ∷ 2 ∷ 1 ∷ 3 ∷ 4 ∷ []) start refl
 
 -- what the contract wants
-pub ruleset worked_out = (links_sound, rows_right, source_sound, two_sound, both_sound, plain_run, reuse_run, along_two_run, prune_run)
+pub ruleset worked_out = (links_sound, rows_right, source_sound, two_sound, both_sound, five_sound, five_not_right, odd_sound, lone_sound, plain_run, reuse_run, along_two_run, prune_run)

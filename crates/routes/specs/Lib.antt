@@ -3,6 +3,7 @@ pub mod Walk
 pub mod Least
 pub mod Row
 pub mod Fails
+pub mod Failures
 pub mod NoneTwice
 pub mod Chain
 pub mod Task
@@ -10,5 +11,6 @@ pub mod State
 pub mod Offers
 pub mod Methods
 pub mod Runs
+pub mod Taken
 pub mod Six
 pub mod Worked

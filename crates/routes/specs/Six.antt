@@ -5,6 +5,9 @@
 --   row_of_zero, row_of_two    the right rows of sources 0 and 2
 --   two_worked                 row 2 is worked already, and no other
 --   both_worked                rows 0 and 2 are
+--   five_wrong                 as is row 5, which holds what is right of row 0
+--   odd                        two stations with a free link, another of the same pair, and one to its own station
+--   lone                       one station with a link to itself, which costs FAR
 --   to_work method rows        row 0 is to be worked by the method
 --   after task xs              the state when the stations xs were taken one after the other
 use Rattle.std.specs.Prelude.{ℕ, zero, suc, List, [], ◌∷◌, Option, Some, None}
@@ -28,6 +31,12 @@ six = record {
   stations = 6;
   links = link 0 1 4 ∷ link 0 2 1 ∷ link 2 1 2 ∷ link 1 3 5 ∷ link 2 3 8 ∷ link 1 4 9 ∷ link 3 4 1 ∷ link 3 0 1 ∷ [];
 }
+
+abbrev pub odd : Network Sum
+odd = record { stations = 2; links = link 0 1 0 ∷ link 0 1 4 ∷ link 1 1 2 ∷ [] }
+
+abbrev pub lone : Network Sum
+lone = record { stations = 1; links = link 0 0 FAR ∷ [] }
 
 abbrev pub numbered : List ℕ → ℕ → Sum
 numbered [] v = sum_cost FAR
@@ -56,6 +65,9 @@ two_worked = written (λ v. None) 2 (Some row_of_two)
 
 abbrev pub both_worked : ℕ → Option (Row Sum)
 both_worked = written two_worked 0 (Some row_of_zero)
+
+abbrev pub five_wrong : ℕ → Option (Row Sum)
+five_wrong = written both_worked 5 (Some row_of_zero)
 
 abbrev pub to_work : Method → (ℕ → Option (Row Sum)) → Task Sum
 to_work method rows = record { network = six; rows = rows; source = 0; method = method }

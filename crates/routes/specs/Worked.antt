@@ -1,20 +1,20 @@
 -- The six stations as tables: beside what the definitions compute stands what the rules give, worked out apart from them.
 --
---   Shown, shown s       a state: labels, predecessors, first stations, who waits at which rank, and the number taken
+--   Shown, shown n s     a state of n stations: labels, predecessors, first stations, who waits at which rank, and the number taken
 --   steps task xs        the states as the stations xs are taken one after the other
---   failures row         which stations of a row for source 0 fail, each beside the cause
+--   failing row          which stations of a row for source 0 fail, each beside the cause
 --   changed_at B c p     the right row of source 0, but cost c and predecessor p for station B
 --   computed_steps, hand_steps          runs of plain, of reuse with row 2, of reuse with the source's own row, and of prune
 --   computed_failures, hand_failures    what fails in the right row, and in eleven wrong ones
 --   computed_tight, hand_tight          which links are tight in row 2, and a ninth one between two stations at FAR; and in row 2 with
 --                                       cost 9 for station 3
 use Rattle.std.specs.Prelude.{ℕ, ◌+◌, Bool, true, false, List, [], ◌∷◌, ◌++◌, length, map, take, Option, Some, None}
-use Rattle.std.specs.List.{filter, flat_map, range_with_len}
+use Rattle.std.specs.List.{range_with_len}
 use Rattle.cost.specs.Kind.{FAR}
 use Rattle.cost.specs.Sum.{sum_kind, sum_cost}
 use Rattle.cost.specs.declared.sum.Sum.{Sum}
 use Rattle.routes.specs.Row.{Row}
-use Rattle.routes.specs.Fails.{fails}
+use Rattle.routes.specs.Failures.{failures}
 use Rattle.routes.specs.Task.{Task}
 use Rattle.routes.specs.State.{State, written}
 use Rattle.routes.specs.Methods.{tight}
@@ -28,20 +28,21 @@ pub record Shown : Type 0 where
   pub waiting : List (Option ℕ)
   pub taken : ℕ
 
-abbrev pub all : List ℕ
-all = range_with_len 0 6
+-- the labels of n stations
+abbrev pub numbers : ℕ → State Sum → List ℕ
+numbers n s = map (λ v. sum_kind.rank (s.row.costs v)) (range_with_len 0 n)
 
-abbrev pub shown : State Sum → Shown
-shown s = record {
-  labels = map (λ v. sum_kind.rank (s.row.costs v)) all;
-  predecessors = map s.row.predecessors all;
-  firsts = map s.firsts all;
-  waiting = map s.queue.ranks all;
+abbrev pub shown : ℕ → State Sum → Shown
+shown n s = record {
+  labels = numbers n s;
+  predecessors = map s.row.predecessors (range_with_len 0 n);
+  firsts = map s.firsts (range_with_len 0 n);
+  waiting = map s.queue.ranks (range_with_len 0 n);
   taken = s.queue.taken;
 }
 
 abbrev pub steps : Task Sum → List ℕ → List Shown
-steps task xs = map (λ k. shown (after task (take k xs))) (range_with_len 0 (length xs + 1))
+steps task xs = map (λ k. shown 6 (after task (take k xs))) (range_with_len 0 (length xs + 1))
 
 abbrev pub computed_steps : List (List Shown)
 computed_steps =
@@ -93,30 +94,26 @@ hand_steps =
     ∷ [])
     ∷ []
 
--- every station beside every number from 0 to 6
-abbrev pub pairs : List (ℕ × ℕ)
-pairs = flat_map (λ B. map (λ cause. (B, cause)) (range_with_len 0 7)) all
-
-abbrev pub failures : Row Sum → List (ℕ × ℕ)
-failures row = filter (λ p. fails sum_kind six 0 row p.0 p.1) pairs
-
 abbrev pub changed_at : ℕ → ℕ → Option ℕ → Row Sum
 changed_at B number p = record { costs = written row_of_zero.costs B (sum_cost number); predecessors = written row_of_zero.predecessors B p }
 
+abbrev pub failing : Row Sum → List (ℕ × ℕ)
+failing = failures sum_kind six 0
+
 abbrev pub computed_failures : List (List (ℕ × ℕ))
 computed_failures =
-    failures row_of_zero
-    ∷ failures (changed_at 0 5 None)
-    ∷ failures (changed_at 0 0 (Some 2))
-    ∷ failures (changed_at 0 0 (Some 3))
-    ∷ failures (changed_at 0 20 (Some 3))
-    ∷ failures (changed_at 3 8 None)
-    ∷ failures (changed_at 5 FAR (Some 3))
-    ∷ failures (changed_at 3 8 (Some 6))
-    ∷ failures (changed_at 3 8 (Some 5))
-    ∷ failures (changed_at 3 7 (Some 1))
-    ∷ failures (changed_at 3 FAR (Some 1))
-    ∷ failures (changed_at 3 9 (Some 2))
+    failing row_of_zero
+    ∷ failing (changed_at 0 5 None)
+    ∷ failing (changed_at 0 0 (Some 2))
+    ∷ failing (changed_at 0 0 (Some 3))
+    ∷ failing (changed_at 0 20 (Some 3))
+    ∷ failing (changed_at 3 8 None)
+    ∷ failing (changed_at 5 FAR (Some 3))
+    ∷ failing (changed_at 3 8 (Some 6))
+    ∷ failing (changed_at 3 8 (Some 5))
+    ∷ failing (changed_at 3 7 (Some 1))
+    ∷ failing (changed_at 3 FAR (Some 1))
+    ∷ failing (changed_at 3 9 (Some 2))
     ∷ []
 
 abbrev pub hand_failures : List (List (ℕ × ℕ))

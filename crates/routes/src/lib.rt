@@ -10,7 +10,7 @@ mod walks;
 mod worked;
 
 pub use method::Method;
-pub use rows::{chains_are_routes, right_rows_pass};
+pub use rows::{chains_are_routes, right_rows_pass, routes_are_walks};
 pub use runs::{plain_needs_no_strict_law, runs_count, runs_end, runs_end_right};
 pub use walks::{least_costs_are_one, zero_is_least};
 pub use worked::worked_network;
