@@ -7,3 +7,4 @@ pub mod Reworked
 pub mod TracedChains
 pub mod Asked
 pub mod Calls
+pub mod Agreed

@@ -15,3 +15,4 @@ pub mod RouteAnswer
 pub mod CheckAnswer
 pub mod Effects
 pub mod Logged
+pub mod Agreeing

@@ -3,11 +3,13 @@
 // Tables and plans are proved against these definitions; nothing here is code.
 #![tactic(auto)]
 
+mod agreeing;
 mod asking;
 mod changing;
 mod links;
 mod log;
 
+pub use agreeing::{checks_agree, costs_agree, routes_agree, works_agree};
 pub use asking::{check_stands, cost_stands, route_stands};
 pub use changing::{lay_stands, lift_stands, work_stands};
 pub use links::links_stay_fair;

@@ -2,3 +2,4 @@ pub mod Ranges
 pub mod WorkedRows
 pub mod ListedPairs
 pub mod Overlong
+pub mod WorkedAgain

@@ -3,11 +3,13 @@
 // The program `costs` prints what it makes.
 #![tactic(auto)]
 
+mod again;
 mod limit;
 mod reports;
 mod table;
 mod works;
 
+pub use again::all_worked_again;
 pub use limit::bytes_to_read;
 pub use reports::report;
 pub use table::{CostWord, table_lines};

@@ -62,6 +62,7 @@ impl<'a, K: FileKind> Plan<'a, K> {
         ensures commissioned { OnOk result (Stands K.Cost.kind (made (stations_of bytes.now) (length self.old.tables.list.cells.now) (links_of K.Cost.kind K.Cost.formed bytes.now)) [] (view K.Cost.kind self.new)) }
         ensures holds { OnOk result (Holds K.Cost.kind K.FileKind.format (view K.Cost.kind self.new).ledger.stations (view K.Cost.kind self.new).ledger.links bytes.now) }
         ensures same { OnErr result (Same self.old.tables self.new.tables) }
+        ensures kept { OnErr result (view K.Cost.kind self.new ≡ view K.Cost.kind self.old) }
     {
         self.tables.read(bytes)
     }

@@ -4,3 +4,4 @@ pub mod Moment
 pub mod Says
 pub mod Leaves
 pub mod Replayed
+pub mod Keeping

@@ -4,8 +4,10 @@
 #![tactic(auto)]
 
 mod entry;
+mod keeping;
 mod run;
 mod step;
 
 pub use entry::{Answer, Entry};
+pub use keeping::replays_keep;
 pub use run::replay;

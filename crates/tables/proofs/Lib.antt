@@ -15,3 +15,4 @@ pub mod Finding
 pub mod Moved
 pub mod Unworking
 pub mod Changed
+pub mod Repeated

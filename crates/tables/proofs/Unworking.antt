@@ -28,7 +28,7 @@ one_on marked row a x y other =
     (λ (off : marked row ≡ false). grind (arith, nat_tests, off, cases_lt a row, cases_eq a row))
     other
 
-past_kept : {X : Type 0} (n a : ℕ) (xs ys : List X) → SameBut n a xs ys → a < n → drop (n * n) ys ≡ drop (n * n) xs
+pub past_kept : {X : Type 0} (n a : ℕ) (xs ys : List X) → SameBut n a xs ys → a < n → drop (n * n) ys ≡ drop (n * n) xs
 past_kept n a xs ys same below =
     let rows : suc a * n ≤ n * n = mul-le-mul_right n below in
     let long : length (drop (n * n) ys) ≡ length (drop (n * n) xs) = omega (arith, length-drop (n * n) xs, length-drop (n * n) ys, same.long) in

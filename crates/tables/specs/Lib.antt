@@ -5,3 +5,4 @@ pub mod Following
 pub mod Made
 pub mod Read
 pub mod Relinked
+pub mod Again

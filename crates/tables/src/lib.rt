@@ -4,6 +4,7 @@
 // Plans are made of tables; they add what all this means over whole logs.
 #![tactic(auto)]
 
+mod again;
 mod asking;
 mod commissioning;
 mod following;
@@ -13,4 +14,5 @@ mod reading;
 mod state;
 mod working;
 
+pub use again::again_is_no_change;
 pub use state::Tables;
