@@ -1,0 +1,4 @@
+pub mod Campuses
+pub mod Asked
+pub mod Sheets
+pub mod Hazards
