@@ -25,6 +25,15 @@ def joined(lines):
     return " | ".join(lines[:MOST_LINES] + [f".. {lines[-1]}, {len(lines)} lines"])
 
 
+def account(data):
+    kind = named_kind(data)
+    try:
+        stations, links = parse_file(kind, data, 4096, ())
+    except Refused as refused:
+        return str(refused)
+    return joined([f"{kind} {stations} {len(links)}"] + [f"{a} {b} {cost}" for a, b, cost in links])
+
+
 def report(data):
     kind = named_kind(data)
     try:
@@ -263,6 +272,9 @@ class Table:
         self.lines.append(line)
         self.answers.append(f"{line}: {answer}")
 
+    def account(self, data):
+        self.say(f"account {data.hex()}", account(data))
+
     def report(self, data):
         self.say(f"report {data.hex()}", report(data))
 
@@ -440,6 +452,41 @@ def memories(t):
         t.memory(2, 9, 9, f"{WORKED}; {refused}")
 
 
+# The worked campuses: the calls, and of the supplier's row the answer that is worked out by hand. Row 4 is worked by reuse, of which
+# the model does not tell how many are taken; station 4 reaches only itself, so that it is one by each method.
+CALLS_ON_H = [f"lay {a} {b} {cost}" for a, b, cost in CAMPUS_H] + ["work 0 plain", "work 4 prune"] + [f"cost 0 {b}" for b in range(5)]
+CALLS_ON_H += ["route 0 3 5", "route 0 3 3", "cost 4 4", "route 4 4 1"]
+SUPPLIED = "refused 14 3 5"
+CALLS_ON_J = [f"lay {a} {b} {cost}" for a, b, cost in CAMPUS_J] + ["work 1 plain", "work 2 plain", "work 0 prune", "cost 0 5"]
+JOINS = [TOP - 1, FAR, TOP - 1, FAR, 64**10, FAR]
+
+
+def answers_on(links, stations, calls, pool):
+    """The answers to the calls, and what is left in the pool, which held 0."""
+    plan = Plan(len(links), stations**2, stations**2)
+    plan.make(stations)
+    told_all, used = [], 0
+    for words in (call.split(" ") for call in calls):
+        places = int(words[3]) if words[0] == "route" else 0
+        part = pool[used : used + places]
+        told_all.append(entry_answer(plan, words, part))
+        pool[used : used + places] = part
+        used += places
+    return told_all
+
+
+def worked_campuses(t):
+    t.note("both worked campuses, with each queue")
+    pool = [0] * 9
+    on_h = answers_on(CAMPUS_H, 5, CALLS_ON_H, pool) + [SUPPLIED]
+    on_j = answers_on(CAMPUS_J, 8, CALLS_ON_J, [])
+    for queue in ("shelf", "heap"):
+        t.say(f"campuses {queue}", f"[{', '.join(on_h)}] [{' '.join(map(str, pool))}] [{', '.join(on_j)}] [{' '.join(map(told, JOINS))}]")
+    t.note("256 stations are made, and 257 refused; a cost of 1,000,000,000 is read, and one more refused")
+    t.plan(1, 65536, 65536, "make 256; make 257; counts")
+    t.plan(1, 4, 4, f"{read(plan_file('sum', 2, [(0, 1, 1_000_000_000)]))}; {read(plan_file('sum', 2, [(0, 1, 1_000_000_001)]))}; write 22")
+
+
 def by_chance(t):
     t.note("plans by chance")
     dice = random.Random(3141)
@@ -497,6 +544,15 @@ def row_of(count):
     return plan_file("split", count + 1, [(k, k + 1, 64) for k in range(count)])
 
 
+def accounts(t):
+    t.note("accounts: one link, a refused file, and as many links as a file may have")
+    t.account(ONE)
+    t.account(plan_file("split", 3, [(0, 1, 2), (1, 2, 64), (2, 0, 8)]))
+    t.account(plan_file("sum", 3, [(0, 1, 7), (1, 2, 7), (0, 1, 7)]))
+    t.account(plan_file("sum", 256, ring(256, 4096, 9)))
+    t.account(plan_file("sum", 256, ring(256, 4097, 9)))
+
+
 def reports(t):
     t.note("reports: one link, in both kinds; one station; no link")
     t.report(bytes([67, 80, 76, 0, 1, 0, 0, 2, 0, 1, 0, 0, 0, 1, 0, 0, 0, 0, 0, 0, 0, 7]))
@@ -546,7 +602,7 @@ def reports(t):
 
 def main():
     table = Table()
-    for part in (new_plans, makes, reads, commissioned_again, writes, replays, memories, by_chance, reports):
+    for part in (new_plans, makes, reads, commissioned_again, writes, replays, memories, worked_campuses, by_chance, accounts, reports):
         part(table)
     root = pathlib.Path("crates/plan_cases")
     (root / "stdin").write_text("".join(line + "\n" for line in table.lines))

@@ -10,7 +10,9 @@ use std::alloc::Global;
 #[derive(Drop)]
 pub enum Case {
     Comment,
+    Account { bytes: Vec<u8> },
     Report { bytes: Vec<u8> },
+    Campuses { heap: bool },
     Plan { sizes: Sizes, steps: Vec<Step> },
     Memory { sizes: Sizes, steps: Vec<Step> },
 }
@@ -45,9 +47,14 @@ impl Case {
         let words: Vec<&str> = head.split(' ').collect(alloc)?;
         match words.as_slice() {
             ["#", ..] => Ok(Case::Comment),
+            ["account", file] => Ok(Case::Account {
+                bytes: hex::decode(alloc, *file)?,
+            }),
             ["report", file] => Ok(Case::Report {
                 bytes: hex::decode(alloc, *file)?,
             }),
+            ["campuses", "shelf"] => Ok(Case::Campuses { heap: false }),
+            ["campuses", "heap"] => Ok(Case::Campuses { heap: true }),
             ["plan", sizes @ ..] => Ok(Case::Plan {
                 sizes: sizes_told(sizes)?,
                 steps: steps_told(alloc, steps)?,

@@ -1,9 +1,12 @@
-// A table of plans and reports: each line of the input is a line of the output, and a case's line goes on with its answer.
+// A table of plans, accounts and reports: each line of the input is a line of the output, and a case's line goes on with its answer.
 //
 //     plan PLACES COSTS PREDECESSORS; STEP; STEP ..    lends a new plan a list of so many places and tables of so many cells,
 //                                                      takes the steps on it one after the other, and tells the answer to each
 //     memory PLACES COSTS PREDECESSORS; STEP; STEP ..  does the same, and tells what list and tables hold when the plan is gone
+//     account HEX                                      the lines of the file's account
 //     report HEX                                       the lines of the file's report
+//     campuses QUEUE                                   the answers on both worked campuses, with a shelf or a heap, what is left in the
+//                                                      places for routes, and the joins at the ends of the ranges
 //     # words                                          only repeats the words
 //
 // A plan is one of sums, worked with a heap. These are its steps:
@@ -27,15 +30,20 @@
 #![tactic(auto)]
 
 mod call;
+mod campus;
 mod case;
 mod memory;
 mod text;
 
+use account::account;
 use anyhow::{Context, Result};
 use call::answers;
+use campus::campuses_text;
 use case::Case;
+use heap::Heap;
 use listing::report;
 use memory::Memory;
+use shelf::Shelf;
 use std::alloc::{AllocError, Global};
 use std::io;
 use text::lines_text;
@@ -44,10 +52,16 @@ use text::lines_text;
 fn answer(alloc: Global, case: &Case) -> Result<Option<String>, AllocError> {
     match case {
         Case::Comment => Ok(None),
+        Case::Account { bytes } => {
+            let lines = account(alloc, bytes)?;
+            Ok(Some(lines_text(alloc, &lines)?))
+        }
         Case::Report { bytes } => {
             let lines = report(alloc, bytes)?;
             Ok(Some(lines_text(alloc, &lines)?))
         }
+        Case::Campuses { heap: true } => Ok(Some(campuses_text::<Heap>(alloc)?)),
+        Case::Campuses { heap: false } => Ok(Some(campuses_text::<Shelf>(alloc)?)),
         Case::Plan { sizes, steps } => {
             let mut memory = Memory::new(alloc, *sizes)?;
             Ok(Some(answers(alloc, &mut memory, steps)?))

@@ -64,6 +64,11 @@ fn answer_text(alloc: Global, answer: Answer<Sum>) -> Result<String, AllocError>
     }
 }
 
+// The cost of a rank.
+pub fn cost_text(alloc: Global, rank: u64) -> Result<String, AllocError> {
+    CostWord(Sum { picoseconds: rank }).to_string(alloc)
+}
+
 // Stations, or none, in a list of places.
 pub fn places_text(alloc: Global, places: &[u16]) -> Result<String, AllocError> {
     let texts: Vec<String> = places
