@@ -1,11 +1,9 @@
 -- A call's answer is the one that the rows by hand give, where it is what the ledger asks for.
-use Rattle.std.proofs.Common.{◌≡◌, ◌≢◌, ℕ, ◌<◌, ◌≤◌, Bool, true, false, not, nat_lt, cond, if◌then◌else◌, List, [], ◌∷◌, ◌++◌, length, drop}
+use Rattle.std.proofs.Common.{◌≡◌, ◌≢◌, ℕ, ◌<◌, ◌≤◌, Bool, true, false, not, nat_lt, if◌then◌else◌, List, ◌++◌, length, drop}
 use Rattle.std.proofs.Common.{Option, Some, None, is_none, ◌&&◌, ◌||◌, ◌==◌, Result, Ok, Err, IfOk, OnErr, refl, ap, subst, sym, ◌∙◌, arith, rules}
-use Rattle.std.specs.Prelude.{count_by, ⊤}
-use Rattle.std.specs.List.{Contains, range_with_len}
+use Rattle.std.specs.Prelude.{⊤}
 use Rattle.std.proofs.lemmas.Bool.{and_parts, true≢false}
 use Rattle.std.proofs.lemmas.Bool.Decides.{nat_tests}
-use Rattle.std.proofs.lemmas.List.Sums.{sum_by-cons}
 use Rattle.cost.specs.Kind.{FAR, Below}
 use Rattle.cost.specs.Sum.{sum_kind}
 use Rattle.cost.specs.declared.sum.Sum.{Sum}
@@ -25,8 +23,8 @@ use Rattle.routes.specs.declared.method.Method.{Method}
 use Rattle.routes.specs.declared.method.Method.TheVariants.{Plain, Reuse, Prune}
 use Rattle.routes.proofs.ByHand.{sum_laws, sum_strict, passes_all, one_tight, fails_only, may_fail, right_by_hand, same_cost, same_chain}
 use Rattle.routes.proofs.Checked.{right_passes}
+use Rattle.routes.proofs.Counting.{counted_alike}
 use Rattle.routes.proofs.Costs.{zero_least_from_strict, at_most_far}
-use Rattle.routes.proofs.Members.{in_first, in_later, in_from_range}
 use Rattle.routes.proofs.OneLeast.{one_least}
 use Rattle.routes.proofs.RightChains.{right_one}
 use Rattle.ledger.proofs.TracedChains.{traced_route}
@@ -57,16 +55,6 @@ none_is (Some x) is = absurd (cc is)
 pub unit_told : (r : Result ⊤ Refusal) (o : Option Code) → told r ≡ o → is_none o ≡ true → r ≡ Ok tt
 unit_told (Ok x) o tells none = refl
 unit_told (Err e) o tells none = absurd (cc (tells, none_is o none))
-
--- as many of the same list pass tests that agree
-same_count : {X : Type 0} (p q : X → Bool) (xs : List X) → ((x : X) → Contains xs x → p x ≡ q x) → count_by p xs ≡ count_by q xs
-same_count p q [] agree = refl
-same_count p q (x ∷ xs) agree =
-    let first = agree x (in_first x xs) in
-    let rest = same_count p q xs (λ y has. agree y (in_later x xs y has)) in
-    let weight : Bool → ℕ = λ b. cond b 1 0 in
-    let tests : weight (p x) ≡ weight (q x) = ap weight first in
-    omega (arith, sum_by-cons (λ y. cond (p y) 1 0) x xs, sum_by-cons (λ y. cond (q y) 1 0) x xs, tests, rest)
 
 -- stations in a list that is long enough, or else none
 fitted : (old new stations : List ℕ) (r : Result ℕ Refusal) (short : Bool) → told r ≡ refused_if short (bare 12) None
@@ -101,9 +89,9 @@ module _ (hand : Hand) (g : Ledger Sum) (fair : Fair sum_kind (network g)) where
         let more = and_parts (row_passes hand g a) (settled hand g method (counted hand g a)) parts.1 in
         let by_hand = right_row a more.0 in
         let alike : counted hand g a ≡ below_far sum_kind g.stations row =
-        same_count (λ v. nat_lt (sum_kind.rank ((hand.rows a).costs v)) FAR) (λ v. nat_lt (sum_kind.rank (row.costs v)) FAR) (range_with_len 0 g.stations)
-        (λ v has. ap (λ z. nat_lt z FAR)
-        (same_cost sum_laws sum_strict fair.between fair.none_free by_hand.0 by_hand.1 answer.worked.right v (in_from_range g.stations v has))) in
+        counted_alike _ _ g.stations
+        (λ v there. ap (λ z. nat_lt z FAR)
+        (same_cost sum_laws sum_strict fair.between fair.none_free by_hand.0 by_hand.1 answer.worked.right v there)) in
         let most : queue.taken ≤ counted hand g a = omega (arith, alike, answer.worked.at_most) in
         ap Ok (taken ∙ counts method more.1 answer.worked.some_taken most (λ other. answer.worked.all other ∙ sym alike))
       where

@@ -2,8 +2,11 @@
 --
 --   recorded first l          whether the row of a first station has l's start as the predecessor of l's end; with no such row, any link is followed
 --   by_recorded task s t      what t offers where prune follows such links, in place of the tight ones
---   pruned_wrongly, pruned    the state after taking stations of campus J one after the other, with rows 1 and 2 worked: by that, and by prune
+--   followed_wrongly task s t the state after taking t and following what t offers by that
+--   prune_of_j                row 0 of campus J, to be worked by prune with rows 1 and 2 worked
+--   pruned_wrongly, pruned    the state of that task after taking stations one after the other: links followed wrongly, and by prune
 --   without_cause_5           which stations of the supplier's row fail, each beside the cause, if cause 5 is left out
+--   reuse_of_h rows           row 0 of campus H, to be worked by reuse with these rows worked
 --   its_own_row               row 0 of campus H is marked before it is worked: it holds what it begins with, and reuse reads it
 --   lost                      the state after taking station 0 by reuse, with that row
 use Rattle.std.specs.Prelude.{ℕ, Bool, true, false, not, ◌==◌, List, [], ◌∷◌, Option, Some, None, if◌then◌else◌}

@@ -1,16 +1,15 @@
 -- Answers that are right by one ledger, put beside each other.
-use Rattle.std.proofs.Common.{◌≡◌, ◌≢◌, ℕ, zero, suc, ◌<◌, ◌≤◌, List, ◌++◌, length, take, drop, Bool, cond, Option, Some, None, Result, Ok, Err, IsOk, IfErr, nat_lt}
-use Rattle.std.proofs.Common.{slice_index_or, refl, subst, sym, ap, ◌∙◌, arith, add-one, map-id}
+use Rattle.std.proofs.Common.{◌≡◌, ◌≢◌, ℕ, ◌<◌, ◌≤◌, List, ◌++◌, length, take, drop, Option, Some, None, Result, Ok, Err, IsOk, IfErr, nat_lt}
+use Rattle.std.proofs.Common.{slice_index_or, refl, subst, sym, ap, ◌∙◌, arith}
 use Rattle.std.proofs.lemmas.Bool.Decides.{nat_tests}
 use Rattle.std.proofs.Math.Seq.{take-append_seam, drop-append_seam}
-use Rattle.std.proofs.lemmas.List.FromFn.{sum_by-map-range_with_len_more}
-use Rattle.std.specs.List.{count_by, range_with_len}
 use Rattle.cost.specs.Kind.{Kind, FAR, Same, Below}
 use Rattle.cost.specs.Laws.{Laws}
 use Rattle.queue.specs.Meaning.{Meaning, Nobody}
 use Rattle.refusal.specs.Code.{code_of}
 use Rattle.refusal.specs.declared.Code.{Code}
 use Rattle.refusal.specs.declared.Refusal.{Refusal}
+use Rattle.routes.proofs.Counting.{counted_alike}
 use Rattle.routes.proofs.OneLeast.{one_least, one_row}
 use Rattle.routes.specs.Row.{Row}
 use Rattle.routes.specs.Runs.{below_far}
@@ -23,16 +22,6 @@ use Rattle.ledger.specs.Agreeing.{Goes}
 use Rattle.ledger.specs.Answers.{CostAnswer, WorkAnswer}
 use Rattle.ledger.specs.RouteAnswer.{route_refusal, Routed, RouteAnswer}
 use Rattle.ledger.specs.CheckAnswer.{CheckAnswer}
-
--- what is told alike of each number below n is counted alike
-counted_alike : (p q : ℕ → Bool) (n : ℕ) → ((v : ℕ) → v < n → p v ≡ q v) → count_by p (range_with_len 0 n) ≡ count_by q (range_with_len 0 n)
-counted_alike p q zero alike = refl
-counted_alike p q (suc n) alike =
-    let one_more = λ (f : ℕ → Bool).
-    let more = sum_by-map-range_with_len_more (λ x. cond (f x) 1 0) (λ x. x) 0 n n (omega arith) in
-    rw add-one at (simp map-id at more) in
-    let before = counted_alike p q n (λ v below. alike v (omega (arith, below))) in
-    omega (arith, one_more p, one_more q, before, ap {B = ℕ} (λ (b : Bool). cond b 1 0) (alike n (omega arith)))
 
 -- a cost is answered for a station alone
 there_if : {K : Type 0} (g : Ledger K) (a b : ℕ) → None ≡ cost_refusal g a b → b < g.stations

@@ -1,5 +1,5 @@
 -- A list of stations is as long as a count of them, where each that is counted stands in it once.
-use Rattle.std.proofs.Common.{◌≡◌, ℕ, zero, suc, ◌+◌, ◌≤◌, Bool, List, cond, length, nat_lt, arith, map-id, add-one}
+use Rattle.std.proofs.Common.{◌≡◌, ℕ, zero, suc, ◌+◌, ◌<◌, ◌≤◌, Bool, List, cond, length, nat_lt, refl, ap, arith, map-id, add-one}
 use Rattle.std.proofs.lemmas.List.FromFn.{length-range_with_len, sum_by-map-range_with_len_more}
 use Rattle.std.proofs.lemmas.List.Sums.{count_by-le-length}
 use Rattle.std.specs.List.{count_by, range_with_len}
@@ -15,6 +15,13 @@ counted_suc : (p : ℕ → Bool) (n : ℕ) → counted p (suc n) ≡ counted p n
 counted_suc p n =
     let more = sum_by-map-range_with_len_more (λ x. cond (p x) 1 0) (λ x. x) 0 n n (omega arith) in
     rw add-one at (simp map-id at more)
+
+-- what is told alike of each number below n is counted alike
+pub counted_alike : (p q : ℕ → Bool) (n : ℕ) → ((v : ℕ) → v < n → p v ≡ q v) → counted p n ≡ counted q n
+counted_alike p q zero alike = refl
+counted_alike p q (suc n) alike =
+    let before = counted_alike p q n (λ v below_n. alike v (omega (arith, below_n))) in
+    omega (arith, counted_suc p n, counted_suc q n, before, ap {B = ℕ} (λ (b : Bool). cond b 1 0) (alike n (omega arith)))
 
 -- at most all do
 pub counted_few : (p : ℕ → Bool) (n : ℕ) → counted p n ≤ n
