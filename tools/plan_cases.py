@@ -52,8 +52,8 @@ def report(data):
 class Plan:
     """A plan of sums by the rules, in memory of so many places and cells."""
 
-    def __init__(self, places, costs, predecessors):
-        self.places, self.cells = places, (costs, predecessors)
+    def __init__(self, places, costs, predecessors, reused=None):
+        self.places, self.cells, self.reused = places, (costs, predecessors), reused
         self.stations, self.links, self.rows = 0, [], {}
         self.list, self.costs, self.predecessors = [(OLD,) * 3] * places, [OLD] * costs, [OLD] * predecessors
 
@@ -122,18 +122,19 @@ class Plan:
         self.unwork()
 
     def work(self, source, method):
-        """How many stations are taken; after reuse that is not told here, where another row is worked."""
+        """How many stations are taken; by reuse, where another row is worked, as many as are told by hand."""
         self.need(source)
         if source in self.rows:
             raise Refused(9)
-        if method == "reuse" and self.rows:
+        by_hand = method == "reuse" and bool(self.rows)
+        if by_hand and self.reused is None:
             raise Free
         costs = least_costs("sum", self.stations, self.links, source)
         self.rows[source] = costs
         row = slice(source * self.stations, (source + 1) * self.stations)
         self.costs[row] = costs
         self.predecessors[row] = [self.predecessor(source, b) for b in range(self.stations)]
-        return sum(cost < FAR for cost in costs)
+        return self.reused if by_hand else sum(cost < FAR for cost in costs)
 
     def predecessor(self, source, b):
         """The one station that may stand last before a station; a mark where it is free which one does."""
@@ -251,9 +252,9 @@ class Table:
         self.lines.append(f"# {words}")
         self.answers.append(f"# {words}")
 
-    def plan(self, places, costs, predecessors, steps):
+    def plan(self, places, costs, predecessors, steps, reused=None):
         line = f"plan {places} {costs} {predecessors}; {steps}"
-        lent = Plan(places, costs, predecessors)
+        lent = Plan(places, costs, predecessors, reused)
         answers = [answer_step(lent, step) for step in steps.split("; ")]
         self.say(line, "; ".join(answers))
 
@@ -420,6 +421,11 @@ def replays(t):
     t.plan(2, 9, 9, "make 3; replay 14 6, cost 0 0, route 0 0 1, work 3 plain, lay 0 1 7, work 0 plain, route 0 2 3, cost 0 3, cost 3 0, lift 1 0, cost 0 1, lift 0 1, cost 0 1, work 0 plain, route 0 1 2; rows")
     t.note("the methods, one row by each")
     t.plan(5, 25, 25, f"{h}; replay 5 0, work 0 reuse, work 1 prune, work 2 plain, work 4 prune, cost 0 3; rows; replay 3 4, route 0 3 4, lift 0 2, work 0 reuse; rows")
+    t.note("reuse takes 0, 2 and 1 on campus H with row 2 worked, and 0, 1 and 2 on campus J with rows 1 and 2; prune takes all that are reached")
+    j = read(plan_file("sum", 8, CAMPUS_J))
+    for method in ("reuse", "prune"):
+        t.plan(5, 25, 25, f"{h}; replay 2 0, work 2 plain, work 0 {method}; rows", reused=3)
+        t.plan(10, 64, 64, f"{j}; replay 3 0, work 1 plain, work 2 plain, work 0 {method}; rows", reused=3)
     t.note("calls on a plan that has no station")
     t.plan(2, 9, 9, "replay 6 3, lay 0 1 4, lift 0 1, work 0 plain, cost 0 0, route 0 0 3, check 0; replay 1 0, route 0 0 1; counts")
 
