@@ -3,7 +3,8 @@
 --   Asked           a call, its answer, with costs by their ranks, and what then stands in its places for a route, which held 0
 --   asked_of_h      the calls on campus H
 --   asked_of_j      the calls on campus J
---   ranked a        an answer with its cost by rank
+--   rank_told r     what a call for a cost tells, with the cost by rank
+--   ranked a        the same of any answer
 --   spots xs        what stands in the places of all of them, one after the other
 use Rattle.std.specs.Prelude.{ℕ, List, [], ◌∷◌, ◌++◌, map, Result, Ok, Err}
 use Rattle.cost.specs.Kind.{FAR}

@@ -1,6 +1,6 @@
 -- Rows by hand, as sheets of a table.
 --
---   Sheet              a row of a source, and which stations fail in it, each beside the cause
+--   Sheet, sheet       a row of a source, and which stations fail in it, each beside the cause
 --   sheets             the rows of both campuses, and the supplier's
 --   computed_failing, failing_by_hand    what fails by the definitions, and by hand
 --   Alike n row other  two rows of n stations agree: in the ranks of costs, and in predecessors

@@ -1,5 +1,6 @@
 -- Stations that are taken one after the other, as a test by numbers.
 --
+--   no_later x y               x is at most y, where both are ranks; whoever does not wait has none
 --   of_lowest n s t            of n stations, t waits in state s, and nobody at a lower rank
 --   all_lowest n follow s ts   so it is with each of the stations ts when it is taken, where follow gives the state that this leaves; and
 --                              then nobody waits
