@@ -33,6 +33,8 @@ impl Queue for Heap {
         Ok(())
     }
 
+    // in line, since each offer that is accepted puts a station
+    #[inline(always)]
     fn put(&mut self, station: u16, rank: u64) -> Result<(), Refusal> {
         let station = self.station(station)?;
         self.tree.put(station, rank);

@@ -2,8 +2,8 @@
 ghost use Rattle.std.specs.Prelude.{◌≤◌};
 ghost use Rattle.heap.specs.Paired.{Paired};
 
-// All stations at the places of a binary tree, each with a rank; fixed memory, of which the first `len` places count. Place 0 is the
-// root, and below place p are 2p + 1 and 2p + 2.
+// All stations at the places of a tree, each with a rank; fixed memory, of which the first `len` places count. Place 0 is the
+// root, and below place p are the places from 4p + 1 to 4p + 4.
 #[derive(Drop)]
 pub(crate) struct Tree {
     pub(crate) stations: [u8; 256],
