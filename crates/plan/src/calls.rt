@@ -7,12 +7,14 @@ ghost use Rattle.ledger.specs.Answers.{CostAnswer, LayAnswer, LiftAnswer, WorkAn
 ghost use Rattle.ledger.specs.RouteAnswer.{RouteAnswer};
 ghost use Rattle.ledger.specs.CheckAnswer.{CheckAnswer};
 ghost use Rattle.ledger.specs.After.{after_lay, after_lift};
+ghost use Rattle.tables.specs.Copied.{CopyEffect};
 ghost use Rattle.tables.specs.Relinked.{Relinked};
 ghost use Rattle.tables.specs.Working.{RowFilled};
+ghost use Rattle.plan.specs.Copies.{CopyAnswer};
 ghost use Rattle.plan.specs.View.{view};
 
 use super::plan::Plan;
-use cost::Cost;
+use cost::{Cost, Link};
 use planfile::Counts;
 use queue::Queue;
 use refusal::Refusal;
@@ -76,6 +78,27 @@ impl<'a, K: Cost> Plan<'a, K> {
         ensures answer { Reckoned K.Cost.kind (view K.Cost.kind self.now) (λ g. CostAnswer K.Cost.kind g ((view K.Cost.kind self.now).rows from) from to result) }
     {
         self.tables.cost_at(from, to)
+    }
+
+    // The laid links, in the order in which they were laid.
+    pub fn links(&self) -> &[Link<K>]
+        ensures value { result.now ≡ (view K.Cost.kind self.now).ledger.links }
+    {
+        self.tables.links()
+    }
+
+    // Copies a worked row to the start of two lists: costs by their ranks, and predecessors. Places after them stay.
+    #[tactic(auto, using(crate::proofs::RowsCopied::copy_reckoned))]
+    pub fn copy_row(
+        &self,
+        source: u16,
+        costs: &mut [u64],
+        predecessors: &mut [u16],
+    ) -> Result<(), Refusal>
+        ensures effect { CopyEffect K.Cost.kind (view K.Cost.kind self.now) source costs.old costs.new predecessors.old predecessors.new result }
+        ensures answer { Reckoned K.Cost.kind (view K.Cost.kind self.now) (λ g. CopyAnswer K.Cost.kind g ((view K.Cost.kind self.now).rows source) source costs.old predecessors.old result) }
+    {
+        self.tables.copy_row(source, costs, predecessors)
     }
 
     // A least route from a station to another: its stations, written at the start of the list, and how many they are.

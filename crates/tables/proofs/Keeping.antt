@@ -6,6 +6,7 @@ use Rattle.std.proofs.lemmas.Bool.{cases_eq, cases_lt}
 use Rattle.std.proofs.lemmas.List.{get_or-take, length-take}
 use Rattle.std.proofs.lemmas.Bool.Decides.{nat_tests}
 use Rattle.cost.specs.Kind.{Kind}
+use Rattle.departures.specs.Threads.{Threaded}
 use Rattle.routes.specs.Network.{Between}
 use Rattle.routes.specs.declared.method.Method.{Method}
 use Rattle.ledger.specs.Ledger.{network}
@@ -65,6 +66,10 @@ kept_twice {a = a} {t} {t'} {t''} one two = record {
 
 pub kept_links : {K : Type 0} {a : ℕ} {t t' : Tables K} → Kept a t t' → (ledger_of t').links ≡ (ledger_of t).links
 kept_links {t = t} {t'} kept = ap (λ k. take k t'.list.cells.now) kept.count ∙ ap (take t.count) kept.list
+
+-- so do their threads
+pub kept_threads : {K : Type 0} {a : ℕ} {t t' : Tables K} → Kept a t t' → Threaded (take 4096 (ledger_of t).links) t'.departures
+kept_threads {t' = t'} kept = subst (λ ls. Threaded (take 4096 ls) t'.departures) (kept_links kept) t'.indexed.threads
 
 -- where the guiding row is not the one that is worked
 pub kept_guide : {K : Type 0} (m : Kind K) {a : ℕ} {t t' : Tables K} → Kept a t t' → (guide : Option ℕ) → IfSome guide (λ w. (w < t.stations) × (w ≢ a)) → guide_row m t' guide ≡ guide_row m t guide

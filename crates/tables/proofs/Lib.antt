@@ -12,7 +12,9 @@ pub mod Unmarked
 pub mod Clearing
 pub mod ReadLinks
 pub mod Finding
+pub mod Between
 pub mod Moved
 pub mod Unworking
 pub mod Changed
 pub mod Repeated
+pub mod CopiedRows

@@ -1,7 +1,7 @@
--- What a station offers over links, where its offers do not go along its row. Prune follows from the source all links, and from another station
--- those that its first station's row lets pass.
-use Rattle.std.specs.Prelude.{◌≡◌, ℕ, ◌==◌, ◌≢◌, true, false, Option, None}
-use Rattle.std.proofs.Common.{refl, arith}
+-- What a station offers over links, where its offers do not go along its row. Plain and reuse follow all of them, and so does prune from the source;
+-- from another station it follows those that its first station's row lets pass.
+use Rattle.std.specs.Prelude.{◌≡◌, ℕ, ◌==◌, ◌≢◌, true, false, Option, None, ◌⊎◌}
+use Rattle.std.proofs.Common.{refl, arith, ⊎_elim}
 use Rattle.std.proofs.lemmas.Bool.Decides.{nat_tests}
 use Rattle.std.proofs.Common.{ne_eqb}
 use Rattle.cost.specs.Kind.{Kind}
@@ -13,7 +13,10 @@ use Rattle.routes.specs.declared.method.Method.{Method}
 use Rattle.routes.specs.declared.method.Method.TheVariants.{Plain, Reuse, Prune}
 use Rattle.ledger.specs.View.{View, task_of}
 use Rattle.tables.specs.Following.{along_by, by_links, first_by, links_by, over}
-use Rattle.tables.specs.declared.following.Trail.TheVariants.{Begins, Goes}
+use Rattle.tables.specs.declared.following.Trail.TheVariants.{Begins, Goes, Unkept}
+
+pub plain_goes : {K : Type 0} (m : Kind K) (task : Task K) (s : State K) (t : ℕ) → (task.method ≡ Plain) ⊎ (task.method ≡ Reuse) → (label : K) → label ≡ s.row.costs t → over m label t (first_by Unkept) (guided m None) task.network.links ≡ by_links m task s t
+plain_goes m task s t is label same = ⊎_elim (λ (e : task.method ≡ Plain). rw (e, same) refl) (λ (e : task.method ≡ Reuse). rw (e, same) refl) is
 
 module _ {K : Type 0} (m : Kind K) (task : Task K) (s : State K) (t : ℕ) (is : task.method ≡ Prune) where
   pub prune_begins : (label : K) → label ≡ s.row.costs t → t ≡ task.source → over m label t (first_by Begins) (guided m None) task.network.links ≡ by_links m task s t

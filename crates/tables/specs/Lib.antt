@@ -6,3 +6,5 @@ pub mod Made
 pub mod Read
 pub mod Relinked
 pub mod Again
+pub mod Indexed
+pub mod Copied

@@ -9,6 +9,7 @@ ghost use Rattle.tables.specs.Made.{make_refusal, made, Made};
 
 use super::state::{Cells, Tables};
 use cost::{Cost, Link};
+use departures::Departures;
 use refusal::Refusal;
 
 impl<'a, K: Cost> Tables<'a, K> {
@@ -27,6 +28,7 @@ impl<'a, K: Cost> Tables<'a, K> {
         ensures predecessors { result.predecessors.cells.now ≡ predecessors.old }
         ensures ledger { ledger_of result ≡ made 0 (length list.old) [] }
     {
+        let departures = Departures::of(&list[..0]);
         Tables {
             stations: 0,
             count: 0,
@@ -36,6 +38,7 @@ impl<'a, K: Cost> Tables<'a, K> {
             predecessors: Cells {
                 cells: predecessors,
             },
+            departures,
         }
     }
 
@@ -81,6 +84,7 @@ impl<'a, K: Cost> Tables<'a, K> {
         self.worked = none_worked();
         self.stations = stations;
         self.count = count;
+        self.departures = Departures::of(self.list.first(count as usize));
     }
 }
 

@@ -1,9 +1,8 @@
 // What a station that is taken offers to others.
-ghost use Rattle.std.specs.Prelude.{◌≡◌, ◌<◌, ◌≢◌, IfSome, Some, take, if◌then◌else◌};
+ghost use Rattle.std.specs.Prelude.{◌≡◌, ◌*◌, ◌<◌, ◌≢◌, IfSome, Some, if◌then◌else◌};
 ghost use Rattle.std.specs.List.{range_with_len, slice_get};
 ghost use Rattle.routes.specs.Methods.{guided};
 ghost use Rattle.routes.specs.Offers.{offered, offered_all};
-ghost use Rattle.departures.specs.Threads.{Threaded};
 ghost use Rattle.tables.specs.View.{ledger_of, row_of};
 ghost use Rattle.tables.specs.Working.{state_of, Kept};
 ghost use Rattle.tables.specs.Following.{along, along_cell, first_by, guide_row, over, over_link};
@@ -11,7 +10,6 @@ ghost use Rattle.tables.specs.Following.{along, along_cell, first_by, guide_row,
 use super::labels::Offer;
 use super::state::Tables;
 use cost::{Cost, Link};
-use departures::Departures;
 use queue::Queue;
 
 // How the first station after the source is known on the way through a station: it is not kept, each next station is the first, or it is that of the
@@ -23,11 +21,12 @@ pub(crate) enum Trail {
     Goes(Option<u16>),
 }
 
-// A station that was taken as a row is worked: the row's source, the station with its label, the row whose tight links alone are followed, and the
-// trail.
+// A station that was taken as a row is worked: the row's source, the place where the row begins, the station with its label, the row whose tight
+// links alone are followed, and the trail.
 #[derive(Clone, Copy)]
 pub(crate) struct Taken<K> {
     pub(crate) source: u16,
+    pub(crate) from: usize,
     pub(crate) station: u16,
     pub(crate) label: K,
     pub(crate) guide: Option<u16>,
@@ -82,6 +81,7 @@ impl<'a, K: Cost> Tables<'a, K> {
         queue: &mut Q,
     )
         requires source { taken.source < self.old.stations }
+        requires from { taken.from ≡ taken.source * self.old.stations }
         requires station { taken.station < self.old.stations }
         requires guide { IfSome taken.guide (λ w. w < self.old.stations) }
         requires between { (link.from < self.old.stations) × (link.to < self.old.stations) }
@@ -92,6 +92,7 @@ impl<'a, K: Cost> Tables<'a, K> {
     {
         if self.admits(taken.guide, link) {
             let offer = Offer {
+                from: taken.from,
                 station: link.to,
                 cost: taken.label.join(link.cost),
                 predecessor: taken.station,
@@ -105,45 +106,48 @@ impl<'a, K: Cost> Tables<'a, K> {
     // Follows the links that leave the station.
     pub(crate) fn follow_links<Q: Queue>(
         &mut self,
-        departures: &Departures,
         taken: Taken<K>,
         firsts: &mut [Option<u16>; 256],
         queue: &mut Q,
     )
         requires source { taken.source < self.old.stations }
+        requires from { taken.from ≡ taken.source * self.old.stations }
         requires station { taken.station < self.old.stations }
         requires guide { IfSome taken.guide (λ w. (w < self.old.stations) × (w ≢ taken.source)) }
         requires queue { (Q.Queue.meaning queue.old).stations ≡ self.old.stations }
-        requires threads { Threaded (take 4096 (ledger_of self.old).links) departures.now }
         ensures state { state_of K.Cost.kind self.new taken.source firsts.new (Q.Queue.meaning queue.new) ≡ offered_all K.Cost.kind (state_of K.Cost.kind self.old taken.source firsts.old (Q.Queue.meaning queue.old)) (over K.Cost.kind taken.label taken.station (first_by taken.trail) (guided K.Cost.kind (guide_row K.Cost.kind self.old taken.guide)) (ledger_of self.old).links) }
         ensures kept { Kept taken.source self.old self.new }
         ensures queue { (Q.Queue.meaning queue.new).stations ≡ (Q.Queue.meaning queue.old).stations }
     {
-        let mut at = departures.first(taken.station);
+        let mut at = self.departures.first(taken.station);
         while let Some(link) = self.link(at) {
             self.follow_link(taken, link, firsts, queue);
-            at = departures.next(at);
+            at = self.departures.next(at);
         }
     }
 
-    // Offers one station the way through the station taken, and then on along the row of that station.
+    // Offers one station the way through the station taken, and then on along the row of that station, which begins at a place that is given.
     fn follow_cell<Q: Queue>(
         &mut self,
         taken: Taken<K>,
+        along: usize,
         station: u16,
         firsts: &mut [Option<u16>; 256],
         queue: &mut Q,
     )
         requires source { taken.source < self.old.stations }
+        requires from { taken.from ≡ taken.source * self.old.stations }
         requires taken { taken.station < self.old.stations }
+        requires along { along ≡ taken.station * self.old.stations }
         requires station { station < self.old.stations }
         requires queue { (Q.Queue.meaning queue.old).stations ≡ self.old.stations }
         ensures state { state_of K.Cost.kind self.new taken.source firsts.new (Q.Queue.meaning queue.new) ≡ offered K.Cost.kind (state_of K.Cost.kind self.old taken.source firsts.old (Q.Queue.meaning queue.old)) (along_cell K.Cost.kind taken.label (row_of K.Cost.kind self.old taken.station) station) }
         ensures kept { Kept taken.source self.old self.new }
         ensures queue { (Q.Queue.meaning queue.new).stations ≡ (Q.Queue.meaning queue.old).stations }
     {
-        let place = self.place(taken.station, station);
+        let place = self.place_from(along, taken.station, station);
         let offer = Offer {
+            from: taken.from,
             station,
             cost: taken.label.join(self.costs.at(place)),
             predecessor: self.predecessors.at(place),
@@ -162,6 +166,7 @@ impl<'a, K: Cost> Tables<'a, K> {
         queue: &mut Q,
     )
         requires source { taken.source < self.old.stations }
+        requires from { taken.from ≡ taken.source * self.old.stations }
         requires taken { taken.station < self.old.stations }
         requires apart { taken.station ≢ taken.source }
         requires queue { (Q.Queue.meaning queue.old).stations ≡ self.old.stations }
@@ -169,8 +174,9 @@ impl<'a, K: Cost> Tables<'a, K> {
         ensures kept { Kept taken.source self.old self.new }
         ensures queue { (Q.Queue.meaning queue.new).stations ≡ (Q.Queue.meaning queue.old).stations }
     {
+        let along = taken.station as usize * self.stations as usize;
         for station in 0..self.stations {
-            self.follow_cell(taken, station, firsts, queue);
+            self.follow_cell(taken, along, station, firsts, queue);
         }
     }
 }

@@ -10,9 +10,10 @@ use super::state::Tables;
 use cost::Cost;
 use queue::Queue;
 
-// An offer of a better label.
+// An offer of a better label; the row of the source begins at the place `from`.
 #[derive(Clone, Copy)]
 pub(crate) struct Offer<K> {
+    pub(crate) from: usize,
     pub(crate) station: u16,
     pub(crate) cost: K,
     pub(crate) predecessor: u16,
@@ -29,6 +30,17 @@ impl<'a, K: Cost> Tables<'a, K> {
         ensures fits { result < self.now.stations * self.now.stations }
     {
         row as usize * self.stations as usize + station as usize
+    }
+
+    // The same, where it is known at which place the row begins.
+    pub(crate) fn place_from(&self, from: usize, row: u16, station: u16) -> usize
+        requires from { from ≡ row * self.now.stations }
+        requires row { row < self.now.stations }
+        requires station { station < self.now.stations }
+        ensures value { result ≡ row * self.now.stations + station }
+        ensures fits { result < self.now.stations * self.now.stations }
+    {
+        from + station as usize
     }
 
     // The cost that a row holds for a station.
@@ -73,12 +85,13 @@ impl<'a, K: Cost> Tables<'a, K> {
         queue: &mut Q,
     )
         requires source { source < self.old.stations }
+        requires from { offer.from ≡ source * self.old.stations }
         requires station { offer.station < self.old.stations }
         requires queue { (Q.Queue.meaning queue.old).stations ≡ self.old.stations }
         ensures state { state_of K.Cost.kind self.new source firsts.new (Q.Queue.meaning queue.new) ≡ offered K.Cost.kind (state_of K.Cost.kind self.old source firsts.old (Q.Queue.meaning queue.old)) (offer_of offer) }
         ensures kept { Kept source self.old self.new }
     {
-        let place = self.place(source, offer.station);
+        let place = self.place_from(offer.from, source, offer.station);
         if offer.cost.rank() < self.costs.at(place).rank() {
             self.costs.set(place, offer.cost);
             self.predecessors.set(place, offer.predecessor);

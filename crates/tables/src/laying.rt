@@ -14,6 +14,7 @@ ghost use Rattle.tables.specs.Relinked.{Unworked, Relinked};
 use super::commissioning::none_worked;
 use super::state::{Cells, Tables};
 use cost::{Cost, Link};
+use departures::Departures;
 use refusal::Refusal;
 
 impl<'a, K: Cost> Tables<'a, K> {
@@ -100,6 +101,7 @@ impl<'a, K: Cost> Tables<'a, K> {
     {
         self.list.set(self.count as usize, link);
         self.count += 1;
+        self.departures = Departures::of(self.list.first(self.count as usize));
     }
 
     // Takes out the link at a place: those after it move down by one.
@@ -112,6 +114,7 @@ impl<'a, K: Cost> Tables<'a, K> {
     {
         self.list.close(place, self.count as usize);
         self.count -= 1;
+        self.departures = Departures::of(self.list.first(self.count as usize));
     }
 
     // Clears the rows that are worked; then none is.

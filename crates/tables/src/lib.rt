@@ -7,6 +7,7 @@
 mod again;
 mod asking;
 mod commissioning;
+mod copying;
 mod following;
 mod labels;
 mod laying;

@@ -14,6 +14,7 @@ ghost use Rattle.tables.specs.Read.{file_refusal, Read};
 
 use super::state::{Cells, Tables};
 use cost::Link;
+use departures::Departures;
 use filekind::FileKind;
 use planfile::{Counts, read, read_counts, write};
 use refusal::Refusal;
@@ -37,6 +38,7 @@ impl<'a, K: FileKind> Tables<'a, K> {
         self.count = 0;
         match self.list.read(bytes) {
             Ok(Counts { stations, links }) => {
+                self.departures = Departures::of(self.list.first(0));
                 self.commission(stations, links);
                 Ok(())
             }

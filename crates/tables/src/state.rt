@@ -1,9 +1,11 @@
 // What the tables of a plan are made of.
 ghost use Rattle.std.specs.Prelude.{◌≡◌, ℕ, ◌*◌, ◌<◌, ◌≤◌, false, length, take, slice_index_or, slice_set};
+ghost use Rattle.tables.specs.Indexed.{Indexed};
 ghost use Rattle.tables.specs.Filled.{Filled};
 ghost use Rattle.cost.specs.declared.link.Link.{Link as LinkOf};
 
 use cost::Link;
+use departures::Departures;
 
 // Cells in memory that the caller lends.
 #[derive(Drop)]
@@ -11,7 +13,7 @@ pub(crate) struct Cells<'a, T> {
     pub(crate) cells: &'a mut [T],
 }
 
-// The tables.
+// The tables, and the threads of the laid links.
 #[derive(Drop)]
 pub struct Tables<'a, K> {
     pub(crate) stations: u16,
@@ -20,6 +22,7 @@ pub struct Tables<'a, K> {
     pub(crate) list: Cells<'a, Link<K>>,
     pub(crate) costs: Cells<'a, K>,
     pub(crate) predecessors: Cells<'a, u16>,
+    pub(crate) departures: Departures,
     ghost few: { stations ≤ 256 },
     ghost marks: { (a : ℕ) → stations ≤ a → slice_index_or worked a false ≡ false },
     ghost counted: { count ≤ length list.cells.now },
@@ -28,6 +31,7 @@ pub struct Tables<'a, K> {
     ghost costs_fit: { stations * stations ≤ length costs.cells.now },
     ghost predecessors_fit: { stations * stations ≤ length predecessors.cells.now },
     ghost between: { (k : ℕ) (d : LinkOf K) → k < count → ((slice_index_or list.cells.now k d).from < stations) × ((slice_index_or list.cells.now k d).to < stations) },
+    ghost indexed: { Indexed (take count list.cells.now) departures },
 }
 
 impl<'a, T: Copy> Cells<'a, T> {

@@ -1,9 +1,8 @@
 // Working a row.
-ghost use Rattle.std.specs.Prelude.{◌≡◌, ◌<◌, IfSome, OnErr, OnOk, None, true, false, take, replicate};
+ghost use Rattle.std.specs.Prelude.{◌≡◌, ◌*◌, ◌<◌, IfSome, OnErr, OnOk, None, true, false, replicate};
 ghost use Rattle.queue.specs.Meaning.{Meaning};
 ghost use Rattle.routes.specs.Methods.{guided, guiding, offers};
 ghost use Rattle.routes.specs.Offers.{offered_all};
-ghost use Rattle.departures.specs.Threads.{Threaded};
 ghost use Rattle.ledger.specs.View.{task_of, worked_rows};
 ghost use Rattle.ledger.specs.Worked.{EndsIn};
 ghost use Rattle.ledger.specs.Effects.{WorkEffect};
@@ -14,7 +13,6 @@ ghost use Rattle.tables.specs.Following.{along_by, by_links, first_by, guide_row
 use super::following::{Taken, Trail};
 use super::state::Tables;
 use cost::Cost;
-use departures::Departures;
 use queue::Queue;
 use refusal::Refusal;
 use routes::Method;
@@ -50,6 +48,7 @@ impl<'a, K: Cost> Tables<'a, K> {
         requires source { source < self.now.stations }
         requires station { station < self.now.stations }
         ensures source { result.source ≡ source }
+        ensures from { result.from ≡ source * self.now.stations }
         ensures station { result.station ≡ station }
         ensures label { result.label ≡ (row_of K.Cost.kind self.now source).costs station }
         ensures guide { IfSome result.guide (λ w. (w < self.now.stations) × ((ledger_of self.now).marked w ≡ true)) }
@@ -58,6 +57,7 @@ impl<'a, K: Cost> Tables<'a, K> {
         let label = self.label(source, station);
         let plain = Taken {
             source,
+            from: source as usize * self.stations as usize,
             station,
             label,
             guide: None,
@@ -93,7 +93,6 @@ impl<'a, K: Cost> Tables<'a, K> {
     // Makes the offers of a station that was taken.
     fn follow<Q: Queue>(
         &mut self,
-        departures: &Departures,
         method: Method,
         source: u16,
         station: u16,
@@ -104,7 +103,6 @@ impl<'a, K: Cost> Tables<'a, K> {
         requires station { station < self.old.stations }
         requires unworked { (ledger_of self.old).marked source ≡ false }
         requires queue { (Q.Queue.meaning queue.old).stations ≡ self.old.stations }
-        requires threads { Threaded (take 4096 (ledger_of self.old).links) departures.now }
         ensures state { state_of K.Cost.kind self.new source firsts.new (Q.Queue.meaning queue.new) ≡ offered_all K.Cost.kind (state_of K.Cost.kind self.old source firsts.old (Q.Queue.meaning queue.old)) (offers K.Cost.kind (task_of (view_of K.Cost.kind self.old) source method) (state_of K.Cost.kind self.old source firsts.old (Q.Queue.meaning queue.old)) station) }
         ensures kept { Kept source self.old self.new }
         ensures queue { (Q.Queue.meaning queue.new).stations ≡ (Q.Queue.meaning queue.old).stations }
@@ -113,7 +111,7 @@ impl<'a, K: Cost> Tables<'a, K> {
         if self.goes_along(method, station) {
             self.follow_row(taken, firsts, queue);
         } else {
-            self.follow_links(departures, taken, firsts, queue);
+            self.follow_links(taken, firsts, queue);
         }
     }
 
@@ -139,17 +137,15 @@ impl<'a, K: Cost> Tables<'a, K> {
         queue.reset(self.stations)?;
         queue.put(source, K::zero().rank())?;
         self.begin_row(source);
-        let departures = Departures::of(self.list.first(self.count as usize));
-        self.run(&departures, method, source, queue);
+        self.run(method, source, queue);
         self.worked[source as usize] = true;
         Ok(())
     }
 
     // Takes station after station, and makes its offers, until nobody waits.
-    fn run<Q: Queue>(&mut self, departures: &Departures, method: Method, source: u16, queue: &mut Q)
+    fn run<Q: Queue>(&mut self, method: Method, source: u16, queue: &mut Q)
         requires source { source < self.old.stations }
         requires unworked { (ledger_of self.old).marked source ≡ false }
-        requires threads { Threaded (take 4096 (ledger_of self.old).links) departures.now }
         requires row { row_of K.Cost.kind self.old source ≡ begun_row K.Cost.kind source }
         requires queue { Q.Queue.meaning queue.old ≡ begun_queue K.Cost.kind self.old.stations source }
         ensures ends { EndsIn K.Cost.kind (task_of (view_of K.Cost.kind self.old) source method) (row_of K.Cost.kind self.new source) (Q.Queue.meaning queue.new) }
@@ -157,7 +153,7 @@ impl<'a, K: Cost> Tables<'a, K> {
     {
         let mut firsts = no_firsts();
         while let Some(station) = queue.take() {
-            self.follow(departures, method, source, station, &mut firsts, queue);
+            self.follow(method, source, station, &mut firsts, queue);
         }
     }
 }

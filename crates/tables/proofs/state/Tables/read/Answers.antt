@@ -3,6 +3,19 @@ use Rattle.std.proofs.Common.{ap, rules}
 use Rattle.tables.proofs.ReadLinks.{file_read, front_between}
 use Rattle.tables.proofs.state.Tables.read.Goals as goal
 
+pub invariant_of-self : goal.invariant_of-self
+invariant_of-self g c = record {
+  few = c.args.self.now.few;
+  marks = c.args.self.now.marks;
+  counted = search rules;
+  short = search rules;
+  list_short = search rules;
+  costs_fit = c.args.self.now.costs_fit;
+  predecessors_fit = c.args.self.now.predecessors_fit;
+  between = search rules;
+  indexed = record { threads = rw c.first.ensures at c.of-self.ensures.threads };
+}
+
 pub commission-requires-clause-between : goal.commission-requires-clause-between
 commission-requires-clause-between g c = front_between g.K.Cost.kind g.K.FileKind.format c.read.new.self.cells.now c.in-Ok.ensures.holds.sound (search rules)
 
