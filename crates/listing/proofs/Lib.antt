@@ -3,3 +3,4 @@ pub mod WorkedRows
 pub mod ListedPairs
 pub mod Overlong
 pub mod WorkedAgain
+mod Turns

@@ -8,7 +8,7 @@ range_suc a zero b e = ap (λ k. k ∷ []) (omega arith)
 range_suc a (suc n) b e = ap (λ xs. a ∷ xs) (range_suc (a + 1) n b (omega arith))
 
 module _ (f : ℕ → List ℕ) where
-  told_suc : (n : ℕ) → flat_map f (range_with_len 0 (suc n)) ≡ flat_map f (range_with_len 0 n) ++ f n
+  pub told_suc : (n : ℕ) → flat_map f (range_with_len 0 (suc n)) ≡ flat_map f (range_with_len 0 n) ++ f n
   told_suc n =
       ap (flat_map f) (range_suc 0 n n (omega arith))
       ∙ flat_map-append f (range_with_len 0 n) (n ∷ [])

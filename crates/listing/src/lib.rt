@@ -5,6 +5,7 @@
 
 mod again;
 mod limit;
+mod order;
 mod reports;
 mod table;
 mod works;
@@ -13,4 +14,4 @@ pub use again::all_worked_again;
 pub use limit::bytes_to_read;
 pub use reports::report;
 pub use table::{CostWord, table_lines};
-pub use works::work_all;
+pub use works::{work_all, work_each, work_table};

@@ -1,0 +1,10 @@
+pub mod Facts
+pub mod Faults
+pub mod Choices
+pub mod Sound
+pub mod Tabled
+pub mod Table
+pub mod ByMethod
+pub mod Row
+pub mod Route
+pub mod Check
