@@ -13,7 +13,7 @@ module _ (f : ℕ → List ℕ) (n : ℕ) (each : (b : ℕ) → length (f b) ≡
   rows_more : (a : ℕ) → rows (a + 1) ≡ rows a ++ f a
   rows_more a = ap rows (add-one a) ∙ told_suc f a
 
-  length_rows : (a : ℕ) → length (rows a) ≡ a * n
+  pub length_rows : (a : ℕ) → length (rows a) ≡ a * n
   length_rows zero = sym (zero-mul n)
   length_rows (suc a) =
       ap (λ (l : List ℕ). length l) (told_suc f a) ∙ length-append (rows a) (f a)

@@ -4,3 +4,4 @@ pub mod Accepted
 pub mod Capped
 pub mod FormedCosts
 pub mod Found
+pub mod TableCells

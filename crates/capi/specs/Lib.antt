@@ -8,3 +8,4 @@ pub mod ByMethod
 pub mod Row
 pub mod Route
 pub mod Check
+pub mod Cells

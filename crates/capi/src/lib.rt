@@ -4,6 +4,7 @@
 #![tactic(auto)]
 
 mod by_method;
+mod cells;
 mod check;
 mod choices;
 mod copying;
