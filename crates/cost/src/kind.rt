@@ -1,6 +1,8 @@
 // A cost kind by its meaning, and the join of a whole list of costs.
-ghost use Rattle.std.specs.Prelude.{◌≡◌, ℕ, Option};
+ghost use Rattle.std.specs.Prelude.{◌≡◌, ℕ, Option, None, is_none};
 ghost use Rattle.std.specs.Option.{ok_or};
+ghost use Rattle.refusal.specs.Code.{bare};
+ghost use Rattle.refusal.specs.First.{refused_if, told};
 ghost use Rattle.refusal.specs.declared.Refusal.TheVariants.{NoCost};
 ghost use Rattle.cost.specs.Kind.{Kind};
 ghost use Rattle.cost.specs.Laws.{Laws, Strict};
@@ -32,9 +34,10 @@ pub trait Cost: Copy {
     fn rank(self) -> u64
         ensures value { result ≡ kind.rank self };
 
-    // The cost that has this number.
+    // The cost that has this number; a number that is no cost's is refused by 21.
     fn form(number: u64) -> Result<Self, Refusal>
-        ensures value { result ≡ ok_or (formed number) NoCost };
+        ensures value { result ≡ ok_or (formed number) NoCost }
+        ensures refused { told result ≡ refused_if (is_none (formed number)) (bare 21) None };
 
     ghost lawful: { Laws kind };
 

@@ -6,7 +6,7 @@
 --   guided                   whether a link is tight in a row, if there is one; else any link is followed
 --   over_links               t's label joined with each of the links given, for the station where it ends
 --   along_row                t's label joined with each cost of row t, with row t's predecessors, for all stations in order; it puts none
---   plain                    over all links from t
+--   plain                    over all links from t: Dijkstra's method
 --   reuse                    along row t where that is worked, else plain
 --   prune                    where t is not the source, and the row of its first station after the source is worked, over the links from t
 --                            that are tight in that row; else over all

@@ -1,4 +1,4 @@
--- Offers of a better label.
+-- Offers of a better label; accepting one is a relaxation.
 --
 --   Offer K               a cost for a station, with its predecessor and the first station after the source on that way; and whether
 --                         the station is put where it does not wait
