@@ -1,3 +1,4 @@
+pub mod Moves
 pub mod Sifts
-pub mod Swaps
+pub mod Turns
 pub mod Waiters

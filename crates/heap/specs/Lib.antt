@@ -1,7 +1,8 @@
 pub mod Heaped
 pub mod Order
 pub mod Paired
-pub mod Places
-pub mod Popped
+pub mod Seating
 pub mod Sifting
 pub mod Swapped
+pub mod Waiting
+pub mod Whole
