@@ -1,2 +1,4 @@
-pub mod Fronts
-pub mod Threads
+pub mod Counts
+pub mod Ends
+pub mod Placing
+pub mod Parts

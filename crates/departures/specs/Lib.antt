@@ -1,2 +1,3 @@
 pub mod Leaving
-pub mod Threads
+pub mod Index
+pub mod Counting

@@ -28,7 +28,7 @@ use Rattle.ledger.proofs.Stood.{stands_still}
 use Rattle.ledger.proofs.TracedChains.{traced_route}
 
 -- a call is accepted where it tells of no refusal, and not where it tells of one
-told_ok : {T : Type 0} (r : Result T Refusal) → told r ≡ None → IsOk r
+pub told_ok : {T : Type 0} (r : Result T Refusal) → told r ≡ None → IsOk r
 told_ok (Ok x) none = refl
 told_ok (Err why) none = absurd (cc none)
 

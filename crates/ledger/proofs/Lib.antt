@@ -6,5 +6,6 @@ pub mod Linked
 pub mod Reworked
 pub mod TracedChains
 pub mod Asked
+pub mod Dues
 pub mod Calls
 pub mod Agreed

@@ -6,6 +6,7 @@ pub mod Fair
 pub mod Log
 pub mod Starts
 pub mod Marks
+pub mod Due
 pub mod Holds
 pub mod Stands
 pub mod Traced

@@ -4,3 +4,4 @@ pub mod ListedPairs
 pub mod Overlong
 pub mod WorkedAgain
 mod Turns
+pub mod Memory

@@ -10,7 +10,7 @@ use Rattle.ledger.specs.Refusals.{no_station}
 use Rattle.tables.specs.Working.{RowFilled}
 use Rattle.tables.specs.declared.state.Tables.{Tables}
 use Rattle.plan.specs.View.{view}
-use Rattle.plan.specs.declared.plan.Plan.{Plan}
+use Rattle.tables.specs.declared.state.Tables.{Tables as Plan}
 use Rattle.listing.specs.AllRows.{AllWorked, none, one_more}
 
 -- what holds of a refused call, where it has to be refused
@@ -19,19 +19,19 @@ on_refused (Err e) b refusal on = on
 on_refused (Ok x) true refusal on = absurd (cc refusal)
 on_refused (Ok x) false refusal on = absurd (cc refusal)
 
-list_of_one : {K : Type 0} (p p' : Plan K) (r : Result Unit Refusal) → OnOk r (p'.tables.list.cells.now ≡ p.tables.list.cells.now) → OnErr r (p' ≡ p)
-    → p'.tables.list.cells.now ≡ p.tables.list.cells.now
+list_of_one : {K : Type 0} (p p' : Plan K) (r : Result Unit Refusal) → OnOk r (p'.list.now ≡ p.list.now) → OnErr r (p' ≡ p)
+    → p'.list.now ≡ p.list.now
 list_of_one p p' (Ok x) left same = left
-list_of_one p p' (Err e) left same = ap (λ (z : Plan _). z.tables.list.cells.now) same
+list_of_one p p' (Err e) left same = ap (λ (z : Plan _). z.list.now) same
 
-list_left : {K : Type 0} (a : ℕ) (t t' : Tables K) (r : Result Unit Refusal) → OnOk r (RowFilled a t t') → OnOk r (t'.list.cells.now ≡ t.list.cells.now)
+list_left : {K : Type 0} (a : ℕ) (t t' : Tables K) (r : Result Unit Refusal) → OnOk r (RowFilled a t t') → OnOk r (t'.list.now ≡ t.list.now)
 list_left a t t' (Ok x) left = left.list
 list_left a t t' (Err e) left = tt
 
 module _ {K : Type 0} {m : Kind K} {method : Method} (p : Plan K) (q : Meaning) where
-  pub list_stays : {n : ℕ} {p' : Plan K} {q' : Meaning} → AllWorked m method p q n p' q' → p'.tables.list.cells.now ≡ p.tables.list.cells.now
+  pub list_stays : {n : ℕ} {p' : Plan K} {q' : Meaning} → AllWorked m method p q n p' q' → p'.list.now ≡ p.list.now
   list_stays none = refl
-  list_stays (one_more {p' = p'} {p'' = p''} before row) = list_of_one p' p'' row.answer (list_left _ p'.tables p''.tables row.answer row.left) row.same ∙ list_stays before
+  list_stays (one_more {p' = p'} {p'' = p''} before row) = list_of_one p' p'' row.answer (list_left _ p' p'' row.answer row.left) row.same ∙ list_stays before
 
   pub nothing_changes : {n : ℕ} {p' : Plan K} {q' : Meaning} → AllWorked m method p q n p' q' → ((a : ℕ) → a < n → (view m p).ledger.marked a ≡ true)
       → (p' ≡ p) × (q' ≡ q)

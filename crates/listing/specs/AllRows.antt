@@ -16,7 +16,7 @@ use Rattle.ledger.specs.Effects.{WorkEffect}
 use Rattle.ledger.specs.Log.{Entry, work}
 use Rattle.tables.specs.Working.{RowFilled}
 use Rattle.plan.specs.View.{view}
-use Rattle.plan.specs.declared.plan.Plan.{Plan}
+use Rattle.tables.specs.declared.state.Tables.{Tables as Plan}
 
 abbrev pub works : {K : Type 0} → ℕ → Method → List (Entry K)
 works n method = map (λ a. work a method) (range_with_len 0 n)
@@ -25,7 +25,7 @@ module _ {K : Type 0} (m : Kind K) (method : Method) where
   pub record RowWorked (a : ℕ) (p : Plan K) (q : Meaning) (p' : Plan K) (q' : Meaning) : Type 0 where
     pub answer : Result Unit Refusal
     pub effect : WorkEffect m (view m p) (view m p') a method answer q'
-    pub left : OnOk answer (RowFilled a p.tables p'.tables)
+    pub left : OnOk answer (RowFilled a p p')
     pub same : OnErr answer (p' ≡ p)
     pub queue : OnErr answer (q' ≡ q)
 

@@ -15,7 +15,7 @@ use Rattle.ledger.specs.Ledger.{Ledger}
 use Rattle.ledger.specs.Log.{Entry, work}
 use Rattle.ledger.specs.Stands.{Stands}
 use Rattle.plan.specs.View.{view}
-use Rattle.plan.specs.declared.plan.Plan.{Plan}
+use Rattle.tables.specs.declared.state.Tables.{Tables as Plan}
 use Rattle.listing.specs.AllRows.{works, AllWorked, RowWorked}
 
 abbrev pub works_of : {K : Type 0} → List ℕ → Method → List (Entry K)

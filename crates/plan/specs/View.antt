@@ -4,7 +4,7 @@
 use Rattle.cost.specs.Kind.{Kind}
 use Rattle.ledger.specs.View.{View}
 use Rattle.tables.specs.View.{view_of}
-use Rattle.plan.specs.declared.plan.Plan.{Plan}
+use Rattle.tables.specs.declared.state.Tables.{Tables}
 
-abbrev pub view : {K : Type 0} → Kind K → Plan K → View K
-view m p = view_of m p.tables
+abbrev pub view : {K : Type 0} → Kind K → Tables K → View K
+view m p = view_of m p

@@ -1,10 +1,6 @@
-// Plans: links are laid and lifted, rows are worked, costs and routes are asked for, and suppliers' rows are tested.
-// Rests on the tables, which do all this, and on the theory of the ledger.
-// Programs use plans, not the crates below.
+// Plans: the name that programs use for tables, which have the calls: links are laid and lifted, rows are worked, and costs and routes are asked for.
+// Rests on the tables. They are one struct: of a struct within a struct its lender would learn nothing when the plan is gone.
+// Programs use plans by this name, not the crates below.
 #![tactic(auto)]
 
-mod calls;
-mod commissioning;
-mod plan;
-
-pub use plan::Plan;
+pub use tables::Tables as Plan;

@@ -35,12 +35,12 @@ module _ {K : Type 0} where
   past_twice {t} {t'} {t''} first next = record {
     stations = next.stations ∙ first.stations;
     places = next.places ∙ first.places;
-    costs = subst (λ n. drop (n * n) t''.costs.cells.now ≡ drop (n * n) t'.costs.cells.now) first.stations next.costs ∙ first.costs;
+    costs = subst (λ n. drop (n * n) t''.costs.now ≡ drop (n * n) t'.costs.now) first.stations next.costs ∙ first.costs;
     predecessors =
-        subst (λ n. drop (n * n) t''.predecessors.cells.now ≡ drop (n * n) t'.predecessors.cells.now) first.stations next.predecessors ∙ first.predecessors;
+        subst (λ n. drop (n * n) t''.predecessors.now ≡ drop (n * n) t'.predecessors.now) first.stations next.predecessors ∙ first.predecessors;
   }
 
-  past_relinked : {m : Kind K} {g : Ledger K} {t t' : Tables K} → Relinked m g t t' → g.stations ≡ t.stations → g.places ≡ length t.list.cells.now → Past t t'
+  past_relinked : {m : Kind K} {g : Ledger K} {t t' : Tables K} → Relinked m g t t' → g.stations ≡ t.stations → g.places ≡ length t.list.now → Past t t'
   past_relinked left stations places = record {
     stations = ap (λ (g : Ledger K). g.stations) left.ledger ∙ stations;
     places = ap (λ (g : Ledger K). g.places) left.ledger ∙ places;
@@ -52,15 +52,15 @@ module _ {K : Type 0} where
   past_filled {a} {t} {t'} left there = record {
     stations = left.stations;
     places = ap length left.list;
-    costs = past_kept t.stations a t.costs.cells.now t'.costs.cells.now left.costs there;
-    predecessors = past_kept t.stations a t.predecessors.cells.now t'.predecessors.cells.now left.predecessors there;
+    costs = past_kept t.stations a t.costs.now t'.costs.now left.costs there;
+    predecessors = past_kept t.stations a t.predecessors.now t'.predecessors.now left.predecessors there;
   }
 
   kept_queue : {before after : Moment K} → after ≡ before → after.queue ≡ before.queue
   kept_queue is = ap (λ (z : Moment K). z.queue) is
 
-  past_same : {before after : Moment K} → after ≡ before → Past before.plan.tables after.plan.tables
-  past_same {before} is = subst (λ (z : Moment K). Past before.plan.tables z.plan.tables) (sym is) (past_itself before.plan.tables)
+  past_same : {before after : Moment K} → after ≡ before → Past before.plan after.plan
+  past_same {before} is = subst (λ (z : Moment K). Past before.plan z.plan) (sym is) (past_itself before.plan)
 
 module _ {K : Type 0} {m : Kind K} where
   module _ {before after : Moment K} {a : Answer K} where
@@ -84,10 +84,10 @@ module _ {K : Type 0} {m : Kind K} where
 
 module _ {K : Type 0} (m : Kind K) (g : Ledger K) (before after : Moment K) (old new : List ℕ) (same : (view m before.plan).ledger ≡ g) where
   -- a row that was worked is that of a station
-  there : (x : ℕ) (method : Method) (a : Answer K) → Says m g before after (Work x method) a old new → accepted a ≡ true → x < before.plan.tables.stations
+  there : (x : ℕ) (method : Method) (a : Answer K) → Says m g before after (Work x method) a old new → accepted a ≡ true → x < before.plan.stations
   there x method (Worked (Ok taken)) says on =
       let none : None ≡ work_refusal g x = says.0.refusal in
-      let stations : before.plan.tables.stations ≡ g.stations = ap (λ (g : Ledger K). g.stations) same in
+      let stations : before.plan.stations ≡ g.stations = ap (λ (g : Ledger K). g.stations) same in
       grind (arith, nat_tests)
   there x method (Worked (Err why)) says on = absurd (cc on)
   there x method (Laid r) says on = absurd says
@@ -96,7 +96,7 @@ module _ {K : Type 0} (m : Kind K) (g : Ledger K) (before after : Moment K) (old
   there x method (Routed r) says on = absurd says
   there x method (Checked r) says on = absurd says
 
-  past_of : (e : Given K) (a : Answer K) → Says m g before after e a old new → Leaves m before after e a → Past before.plan.tables after.plan.tables
+  past_of : (e : Given K) (a : Answer K) → Says m g before after e a old new → Leaves m before after e a → Past before.plan after.plan
   past_of (Lay x y c) a says leaves =
       by_test (accepted a) (λ on. past_relinked (leaves.changes on).0 refl refl) (λ off. past_same (leaves.kept off))
   past_of (Lift x y) a says leaves =
@@ -123,8 +123,8 @@ module _ {K : Type 0} {m : Kind K} where
         let here = run.each i (omega (arith, under)) in
         rw add-one at (unqueued here.entry (idle i here.entry here.entry_there) here.leaves) ∙ queue_up_to idle i (omega (arith, under))
 
-    past_up_to : (i : ℕ) → i ≤ n → Past before.plan.tables (run.moments i).plan.tables
-    past_up_to zero under = subst (λ (z : Moment K). Past before.plan.tables z.plan.tables) (sym run.first) (past_itself before.plan.tables)
+    past_up_to : (i : ℕ) → i ≤ n → Past before.plan (run.moments i).plan
+    past_up_to zero under = subst (λ (z : Moment K). Past before.plan z.plan) (sym run.first) (past_itself before.plan)
     past_up_to (suc i) under =
         let here = run.each i (omega (arith, under)) in
         past_twice (past_up_to i (omega (arith, under))) (rw add-one at (past_of m _ _ _ _ _ here.stands.reckoned here.entry here.answer here.says here.leaves))
@@ -135,8 +135,8 @@ module _ {K : Type 0} {m : Kind K} where
     pub queue_kept : ((i : ℕ) (e : Given K) → slice_get es i ≡ Some e → Unqueued e) → after.queue ≡ before.queue
     queue_kept idle = sym (ap (λ (z : Moment K). z.queue) run.last) ∙ queue_up_to idle n (omega arith)
 
-    pub past_all : Past before.plan.tables after.plan.tables
-    past_all = subst (λ (z : Moment K). Past before.plan.tables z.plan.tables) run.last (past_up_to n (omega arith))
+    pub past_all : Past before.plan after.plan
+    past_all = subst (λ (z : Moment K). Past before.plan z.plan) run.last (past_up_to n (omega arith))
 
 -- what the contract wants
 pub ruleset kept = (asking_kept, queue_kept, past_all)

@@ -1,3 +1,4 @@
+pub mod Memory
 pub mod Lists
 pub mod Replaying
 pub mod Underway

@@ -69,6 +69,7 @@ module _ {K : Type 0} {m : Kind K} {start : Ledger K} {log : List (Entry K)}
         stands = at.stands;
         stands_then = at.stands_then;
         says = subst Told (sym (part_stays new pool _ _ (places_of at.entry) within same)) at.says;
+        due = at.due;
         leaves = at.leaves;
       }
 

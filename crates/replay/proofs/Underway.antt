@@ -11,13 +11,17 @@ use Rattle.std.specs.List.{sum_by}
 use Rattle.cost.specs.Kind.{Kind}
 use Rattle.ledger.specs.Ledger.{Ledger}
 use Rattle.ledger.specs.Log.{Entry, reckon}
-use Rattle.ledger.specs.Logged.{Logged, Reckoned}
+use Rattle.ledger.specs.Logged.{ByLog, Logged, Reckoned}
 use Rattle.ledger.specs.Stands.{Stands}
 use Rattle.plan.specs.View.{view}
+use Rattle.tables.specs.Lent.{SameMemory}
+use Rattle.tables.proofs.Memory.{memory_itself, memory_twice}
+use Rattle.replay.proofs.Memory.{leaves_memory}
 use Rattle.replay.specs.Entries.{meant, places_of}
 use Rattle.replay.specs.Pool.{part}
 use Rattle.replay.specs.Moment.{Moment}
 use Rattle.replay.specs.Says.{Says}
+use Rattle.replay.specs.Due.{Due}
 use Rattle.replay.specs.Leaves.{Leaves}
 use Rattle.replay.specs.Replayed.{Replayed, Replays, log_to}
 use Rattle.replay.specs.declared.entry.Entry.{Entry as Given}
@@ -31,6 +35,7 @@ module _ {K : Type 0} (m : Kind K) (es : List (Given K)) (first answers : List (
     pub fits : sum_by places_of es ≤ length new
     pub used_is : used ≡ sum_by places_of (take n es)
     pub replays : Replays m es answers old new before now n
+    pub memory : SameMemory before.plan now.plan
     pub pool_past : drop used new ≡ drop used old
     pub answers_past : drop n answers ≡ drop n first
 
@@ -42,6 +47,7 @@ module _ {K : Type 0} {m : Kind K} {es : List (Given K)} {first : List (Answer K
     fits = leb-true _ _ (sym tested ∙ fits);
     used_is = refl;
     replays = λ start log stands. replayed_none stands;
+    memory = memory_itself before.plan;
     pool_past = refl;
     answers_past = refl;
   }
@@ -76,9 +82,10 @@ module _ {K : Type 0} {m : Kind K} {es : List (Given K)} {first : List (Answer K
         below = subst (λ z. take z (gets_back used k new list) ≡ take z new) run.used_is (back_below new old used k fits_next run.pool_past list long)
 
         pub goes_on : {a : Answer K} {after : Moment K} → Logged m (meant e) (view m now.plan) (view m after.plan)
-            → Reckoned m (view m now.plan) (λ g. Says m g now after e a (lends used k new) list) → Leaves m now after e a
+            → Reckoned m (view m now.plan) (λ g. Says m g now after e a (lends used k new) list)
+            → ByLog m (view m now.plan) (λ start log. Due m start log e a (lends used k new)) → Leaves m now after e a
             → Underway m es first (slice_set answers n a) old (gets_back used k new list) before after (n + 1) (used + k)
-        goes_on {a} {after} logged says leaves =
+        goes_on {a} {after} logged says due leaves =
             let there = slice_get_read es _ n e refl within is in
             let room : n < length answers = omega (arith, run.room) in
             record {
@@ -94,8 +101,10 @@ module _ {K : Type 0} {m : Kind K} {es : List (Given K)} {first : List (Answer K
                 stands_then =
                     subst (λ z. Stands m start z (view m after.plan)) (log_next log es n e there) (logged.stands start _ (run.replays start log stands).stands);
                 says = of_parts (Says m (reckon m start (log_to log es n)) now after e a) (says.by_ledger start _ (run.replays start log stands).stands);
+                due = of_parts (λ before then. Due m start (log_to log es n) e a before) (due.by_log start _ (run.replays start log stands).stands);
                 leaves = leaves;
               });
+              memory = memory_twice run.memory (leaves_memory leaves);
               pool_past = back_past new old used k fits_next run.pool_past list long;
               answers_past = past_next answers first n a run.answers_past;
             }

@@ -26,6 +26,6 @@ Unqueued (Check a costs predecessors) = Unit {0}
 
 pub record Past {K : Type 0} (t t' : Tables K) : Type 0 where
   pub stations : t'.stations ≡ t.stations
-  pub places : length t'.list.cells.now ≡ length t.list.cells.now
-  pub costs : drop (t.stations * t.stations) t'.costs.cells.now ≡ drop (t.stations * t.stations) t.costs.cells.now
-  pub predecessors : drop (t.stations * t.stations) t'.predecessors.cells.now ≡ drop (t.stations * t.stations) t.predecessors.cells.now
+  pub places : length t'.list.now ≡ length t.list.now
+  pub costs : drop (t.stations * t.stations) t'.costs.now ≡ drop (t.stations * t.stations) t.costs.now
+  pub predecessors : drop (t.stations * t.stations) t'.predecessors.now ≡ drop (t.stations * t.stations) t.predecessors.now

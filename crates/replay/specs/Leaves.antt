@@ -26,9 +26,9 @@ accepted (Checked r) = is_ok r
 
 module _ {K : Type 0} (m : Kind K) (before after : Moment K) where
   abbrev pub Changes : Entry K → Type 0
-  Changes (Lay a b c) = Relinked m (after_lay (view m before.plan).ledger a b c) before.plan.tables after.plan.tables × (after.queue ≡ before.queue)
-  Changes (Lift a b) = Relinked m (after_lift (view m before.plan).ledger a b) before.plan.tables after.plan.tables × (after.queue ≡ before.queue)
-  Changes (Work a method) = RowFilled a before.plan.tables after.plan.tables
+  Changes (Lay a b c) = Relinked m (after_lay (view m before.plan).ledger a b c) before.plan after.plan × (after.queue ≡ before.queue)
+  Changes (Lift a b) = Relinked m (after_lift (view m before.plan).ledger a b) before.plan after.plan × (after.queue ≡ before.queue)
+  Changes (Work a method) = RowFilled a before.plan after.plan
   Changes (Cost a b) = after ≡ before
   Changes (Route a b places) = after ≡ before
   Changes (Check a costs predecessors) = after ≡ before

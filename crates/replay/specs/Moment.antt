@@ -3,7 +3,7 @@
 --   Moment K       a plan, and what the queue for its works means
 --   moment p q     the plan p and the queue q
 use Rattle.queue.specs.Meaning.{Meaning}
-use Rattle.plan.specs.declared.plan.Plan.{Plan}
+use Rattle.tables.specs.declared.state.Tables.{Tables as Plan}
 
 pub record Moment (K : Type 0) : Type 0 where
   pub plan : Plan K

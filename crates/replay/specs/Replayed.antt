@@ -1,8 +1,8 @@
 -- Entries that were run on a plan, one after the other.
 --
 --   log_to log es i       the log with the first i of the entries es added
---   AnsweredAt .. i       entry i has the right answer by the ledger reckoned up to it, and leaves what it has to; before it the plan stands
---                         by the log up to it, and then by the log with it
+--   AnsweredAt .. i       entry i has the right answer by the ledger reckoned up to it, where one is due by the log up to it, and leaves
+--                         what it has to; before it the plan stands by the log up to it, and then by the log with it
 --   Replayed .. n         so it is with each of the first n entries, and each is run at the moment that the one before it left
 --   Replays .. n          this holds from whatever start and log the plan stands at first
 use Rattle.std.specs.Prelude.{◌≡◌, ℕ, ◌+◌, ◌<◌, List, ◌++◌, map, take, Some}
@@ -16,6 +16,7 @@ use Rattle.replay.specs.Entries.{meant}
 use Rattle.replay.specs.Pool.{part}
 use Rattle.replay.specs.Moment.{Moment}
 use Rattle.replay.specs.Says.{Says}
+use Rattle.replay.specs.Due.{Due}
 use Rattle.replay.specs.Leaves.{Leaves}
 use Rattle.replay.specs.declared.entry.Entry.{Entry as Given}
 use Rattle.replay.specs.declared.entry.Answer.{Answer}
@@ -33,6 +34,7 @@ module _ {K : Type 0} where
       pub stands : Stands m start (log_to log es i) (view m before.plan)
       pub stands_then : Stands m start (log_to log es (i + 1)) (view m after.plan)
       pub says : Says m (reckon m start (log_to log es i)) before after entry answer (part es i entry old) (part es i entry new)
+      pub due : Due m start (log_to log es i) entry answer (part es i entry old)
       pub leaves : Leaves m before after entry answer
 
     pub record Replayed (before after : Moment K) (n : ℕ) : Type 0 where

@@ -16,5 +16,5 @@ ghost use Rattle.replay.specs.declared.entry.Entry.{Entry as Given};
 pub fn replays_keep<K>()
     ensures asking { (m : Kind K) (start : Ledger K) (log : List (Entry K)) (es : List (Given K)) (answers : List (Answer K)) (old new : List ℕ) (before after : Moment K) (n : ℕ) → ((i : ℕ) (e : Given K) → slice_get es i ≡ Some e → Asks e) → Replayed m start log es answers old new before after n → after ≡ before }
     ensures queue { (m : Kind K) (start : Ledger K) (log : List (Entry K)) (es : List (Given K)) (answers : List (Answer K)) (old new : List ℕ) (before after : Moment K) (n : ℕ) → ((i : ℕ) (e : Given K) → slice_get es i ≡ Some e → Unqueued e) → Replayed m start log es answers old new before after n → after.queue ≡ before.queue }
-    ensures past { (m : Kind K) (start : Ledger K) (log : List (Entry K)) (es : List (Given K)) (answers : List (Answer K)) (old new : List ℕ) (before after : Moment K) (n : ℕ) → Replayed m start log es answers old new before after n → Past before.plan.tables after.plan.tables }
+    ensures past { (m : Kind K) (start : Ledger K) (log : List (Entry K)) (es : List (Given K)) (answers : List (Answer K)) (old new : List ℕ) (before after : Moment K) (n : ℕ) → Replayed m start log es answers old new before after n → Past before.plan after.plan }
 {}

@@ -6,6 +6,7 @@ ghost use Rattle.replay.specs.Entries.{places_of};
 ghost use Rattle.replay.specs.Pool.{replay_refusal};
 ghost use Rattle.replay.specs.Moment.{moment};
 ghost use Rattle.replay.specs.Replayed.{Replays};
+ghost use Rattle.tables.specs.Lent.{SameMemory};
 
 use super::entry::{Answer, Entry};
 use super::step::{answer, wanted};
@@ -26,6 +27,7 @@ pub fn replay<K: Cost, Q: Queue>(
 ) -> Result<(), Refusal>
     ensures refused { told result ≡ replay_refusal entries.now (length pool.old) (length answers.old) }
     ensures replayed { OnOk result (Replays K.Cost.kind entries.now answers.new pool.old pool.new (moment plan.old (Q.Queue.meaning queue.old)) (moment plan.new (Q.Queue.meaning queue.new)) (length entries.now)) }
+    ensures memory { SameMemory plan.old plan.new }
     ensures pool_past { drop (sum_by places_of entries.now) pool.new ≡ drop (sum_by places_of entries.now) pool.old }
     ensures answers_past { drop (length entries.now) answers.new ≡ drop (length entries.now) answers.old }
     ensures same { OnErr result (moment plan.new (Q.Queue.meaning queue.new) ≡ moment plan.old (Q.Queue.meaning queue.old)) }

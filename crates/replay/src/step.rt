@@ -1,10 +1,11 @@
 // One entry.
 ghost use Rattle.std.specs.Prelude.{◌≡◌};
-ghost use Rattle.ledger.specs.Logged.{Logged, Reckoned};
+ghost use Rattle.ledger.specs.Logged.{ByLog, Logged, Reckoned};
 ghost use Rattle.plan.specs.View.{view};
 ghost use Rattle.replay.specs.Entries.{meant, places_of};
 ghost use Rattle.replay.specs.Moment.{moment};
 ghost use Rattle.replay.specs.Says.{Says};
+ghost use Rattle.replay.specs.Due.{Due};
 ghost use Rattle.replay.specs.Leaves.{Leaves};
 
 use super::entry::{Answer, Entry};
@@ -31,6 +32,7 @@ pub(crate) fn answer<K: Cost, Q: Queue>(
 ) -> Answer<K>
     ensures logged { Logged K.Cost.kind (meant entry.now) (view K.Cost.kind plan.old) (view K.Cost.kind plan.new) }
     ensures says { Reckoned K.Cost.kind (view K.Cost.kind plan.old) (λ g. Says K.Cost.kind g (moment plan.old (Q.Queue.meaning queue.old)) (moment plan.new (Q.Queue.meaning queue.new)) entry.now result list.old list.new) }
+    ensures due { ByLog K.Cost.kind (view K.Cost.kind plan.old) (λ start log. Due K.Cost.kind start log entry.now result list.old) }
     ensures leaves { Leaves K.Cost.kind (moment plan.old (Q.Queue.meaning queue.old)) (moment plan.new (Q.Queue.meaning queue.new)) entry.now result }
 {
     match *entry {

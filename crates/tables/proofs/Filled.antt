@@ -13,10 +13,10 @@ module _ {K : Type 0} {a : ℕ} {t t' : Tables K} (filled : RowFilled a t t') wh
   pub filled_ledger : a < length t.worked → ledger_of t' ≡ after_work (ledger_of t) a
   filled_ledger there =
       let marks : (ledger_of t').marked ≡ (after_work (ledger_of t) a).marked = ap (λ w b. slice_index_or w b false) filled.worked ∙ set_is_written t.worked false true a there in
-      ap (λ n. record { stations = n; places = length t'.list.cells.now; links = take t'.count t'.list.cells.now; marked = (ledger_of t').marked }) filled.stations
-      ∙ ap (λ k. record { stations = t.stations; places = length t'.list.cells.now; links = take k t'.list.cells.now; marked = (ledger_of t').marked }) filled.count
+      ap (λ n. record { stations = n; places = length t'.list.now; links = take t'.count t'.list.now; marked = (ledger_of t').marked }) filled.stations
+      ∙ ap (λ k. record { stations = t.stations; places = length t'.list.now; links = take k t'.list.now; marked = (ledger_of t').marked }) filled.count
       ∙ ap (λ ls. record { stations = t.stations; places = length ls; links = take t.count ls; marked = (ledger_of t').marked }) filled.list
-      ∙ ap (λ f. record { stations = t.stations; places = length t.list.cells.now; links = take t.count t.list.cells.now; marked = f }) marks
+      ∙ ap (λ f. record { stations = t.stations; places = length t.list.now; links = take t.count t.list.now; marked = f }) marks
 
   pub filled_others : (m : Kind K) (b : ℕ) → (b ≢ a) → row_of m t' b ≡ row_of m t b
   filled_others m b apart = other_cells m filled.stations filled.costs filled.predecessors apart

@@ -6,7 +6,6 @@ use Rattle.std.proofs.lemmas.Bool.{cases_eq, cases_lt}
 use Rattle.std.proofs.lemmas.List.{get_or-take, length-take}
 use Rattle.std.proofs.lemmas.Bool.Decides.{nat_tests}
 use Rattle.cost.specs.Kind.{Kind}
-use Rattle.departures.specs.Threads.{Threaded}
 use Rattle.routes.specs.Network.{Between}
 use Rattle.routes.specs.declared.method.Method.{Method}
 use Rattle.ledger.specs.Ledger.{network}
@@ -16,6 +15,7 @@ use Rattle.tables.specs.View.{cell, ledger_of, row_in, row_of, view_of}
 use Rattle.tables.specs.Following.{guide_row}
 use Rattle.tables.specs.Working.{SameBut, Kept}
 use Rattle.tables.proofs.Cells.{same_but_itself, same_but_twice}
+use Rattle.tables.proofs.Memory.{memory_itself, memory_twice}
 
 other_row : (n a b v : ℕ) → (b ≢ a) → v < n → (b * n + v < a * n) ⊎ (a * n + n ≤ b * n + v)
 other_row n a b v apart fits =
@@ -46,30 +46,30 @@ kept_row m kept apart = other_cells m kept.stations kept.costs kept.predecessors
 
 pub kept_itself : {K : Type 0} (a : ℕ) (t : Tables K) → Kept a t t
 kept_itself a t = record {
+  memory = memory_itself t;
   stations = refl;
   count = refl;
   worked = refl;
   list = refl;
-  costs = same_but_itself t.stations a t.costs.cells.now;
-  predecessors = same_but_itself t.stations a t.predecessors.cells.now;
+  departures = refl;
+  costs = same_but_itself t.stations a t.costs.now;
+  predecessors = same_but_itself t.stations a t.predecessors.now;
 }
 
 pub kept_twice : {K : Type 0} {a : ℕ} {t t' t'' : Tables K} → Kept a t t' → Kept a t' t'' → Kept a t t''
 kept_twice {a = a} {t} {t'} {t''} one two = record {
+  memory = memory_twice one.memory two.memory;
   stations = two.stations ∙ one.stations;
   count = two.count ∙ one.count;
   worked = two.worked ∙ one.worked;
   list = two.list ∙ one.list;
-  costs = same_but_twice t.stations a t.costs.cells.now t'.costs.cells.now t''.costs.cells.now one.costs (subst (λ n. SameBut n a t'.costs.cells.now t''.costs.cells.now) one.stations two.costs);
-  predecessors = same_but_twice t.stations a t.predecessors.cells.now t'.predecessors.cells.now t''.predecessors.cells.now one.predecessors (subst (λ n. SameBut n a t'.predecessors.cells.now t''.predecessors.cells.now) one.stations two.predecessors);
+  departures = two.departures ∙ one.departures;
+  costs = same_but_twice t.stations a t.costs.now t'.costs.now t''.costs.now one.costs (subst (λ n. SameBut n a t'.costs.now t''.costs.now) one.stations two.costs);
+  predecessors = same_but_twice t.stations a t.predecessors.now t'.predecessors.now t''.predecessors.now one.predecessors (subst (λ n. SameBut n a t'.predecessors.now t''.predecessors.now) one.stations two.predecessors);
 }
 
 pub kept_links : {K : Type 0} {a : ℕ} {t t' : Tables K} → Kept a t t' → (ledger_of t').links ≡ (ledger_of t).links
-kept_links {t = t} {t'} kept = ap (λ k. take k t'.list.cells.now) kept.count ∙ ap (take t.count) kept.list
-
--- so do their threads
-pub kept_threads : {K : Type 0} {a : ℕ} {t t' : Tables K} → Kept a t t' → Threaded (take 4096 (ledger_of t).links) t'.departures
-kept_threads {t' = t'} kept = subst (λ ls. Threaded (take 4096 ls) t'.departures) (kept_links kept) t'.indexed.threads
+kept_links {t = t} {t'} kept = ap (λ k. take k t'.list.now) kept.count ∙ ap (take t.count) kept.list
 
 -- where the guiding row is not the one that is worked
 pub kept_guide : {K : Type 0} (m : Kind K) {a : ℕ} {t t' : Tables K} → Kept a t t' → (guide : Option ℕ) → IfSome guide (λ w. (w < t.stations) × (w ≢ a)) → guide_row m t' guide ≡ guide_row m t guide
@@ -94,7 +94,7 @@ kept_task {K} m {a} {t} {t'} kept unworked method =
 -- the links run between stations
 pub links_between : {K : Type 0} (t : Tables K) → Between (network (ledger_of t))
 links_between t l has =
-    let within : has.0 < t.count = omega (arith, has.1, length-take t.count t.list.cells.now) in
+    let within : has.0 < t.count = omega (arith, has.1, length-take t.count t.list.now) in
     let there = t.between has.0 l within in
-    let here : slice_index_or t.list.cells.now has.0 l ≡ l = sym (get_or-take t.count t.list.cells.now has.0 l within) ∙ has.2 in
+    let here : slice_index_or t.list.now has.0 l ≡ l = sym (get_or-take t.count t.list.now has.0 l within) ∙ has.2 in
     rw here at there

@@ -2,7 +2,7 @@ pub mod Cells
 pub mod Accepted
 pub mod Keeping
 pub mod Along
-pub mod Thread
+pub mod Part
 pub mod Offering
 pub mod Filling
 pub mod Running
@@ -18,3 +18,9 @@ pub mod Unworking
 pub mod Changed
 pub mod Repeated
 pub mod CopiedRows
+pub mod Memory
+pub mod SoundLinks
+pub mod Rereading
+pub mod Commissioned
+pub mod NeverLong
+pub mod RowsCopied

@@ -11,6 +11,7 @@ use Rattle.planfile.specs.Fronted.{fronted}
 use Rattle.planfile.specs.Reading.{count_of, links_of, stations_of}
 use Rattle.planfile.proofs.FrontLinks.{links_in_front}
 use Rattle.tables.specs.declared.state.Tables.{Tables}
+use Rattle.tables.specs.Lent.{SameMemory}
 use Rattle.tables.specs.View.{ledger_of}
 use Rattle.tables.specs.Filled.{Filled}
 use Rattle.tables.specs.Made.{made}
@@ -30,12 +31,13 @@ front_between m f {n} {count} list sound fits k d within =
     rw (get_or-take count list k d within) at (laid_between m f n [] (take count list) sound.laid k d there)
 
 -- tables that were commissioned with what was read into the list hold the file
-pub file_read : {K : Type 0} (m : Kind K) (formed : ℕ → Option K) (bs : List ℕ) (t t' : Tables K) {n count : ℕ} {list : List (Link K)} → n ≡ stations_of bs → count ≡ count_of bs → list ≡ fronted (links_of m formed bs) t.list.cells.now → length list ≡ length t.list.cells.now
-    → ledger_of t' ≡ made n (length list) (take count list) → t'.list.cells.now ≡ list → Filled 0 (n * n) m.far t.costs.cells.now t'.costs.cells.now → Filled 0 (n * n) 65535 t.predecessors.cells.now t'.predecessors.cells.now → Read m formed bs t t'
-file_read m formed bs t t' {n} {count} {list} stations counted after long ledger same costs predecessors =
-    let links : take count list ≡ links_of m formed bs = ap (λ k. take k list) counted ∙ ap (take (count_of bs)) after ∙ links_in_front m formed bs t.list.cells.now in record {
-      ledger = ledger ∙ ap (λ k. made k (length list) (take count list)) stations ∙ ap (λ p. made (stations_of bs) p (take count list)) long ∙ ap (made (stations_of bs) (length t.list.cells.now)) links;
+pub file_read : {K : Type 0} (m : Kind K) (formed : ℕ → Option K) (bs : List ℕ) (t t' : Tables K) {n count : ℕ} {list : List (Link K)} → n ≡ stations_of bs → count ≡ count_of bs → list ≡ fronted (links_of m formed bs) t.list.now → length list ≡ length t.list.now
+    → SameMemory t t' → ledger_of t' ≡ made n (length list) (take count list) → t'.list.now ≡ list → Filled 0 (n * n) m.far t.costs.now t'.costs.now → Filled 0 (n * n) 65535 t.predecessors.now t'.predecessors.now → Read m formed bs t t'
+file_read m formed bs t t' {n} {count} {list} stations counted after long memory ledger same costs predecessors =
+    let links : take count list ≡ links_of m formed bs = ap (λ k. take k list) counted ∙ ap (take (count_of bs)) after ∙ links_in_front m formed bs t.list.now in record {
+      memory = memory;
+      ledger = ledger ∙ ap (λ k. made k (length list) (take count list)) stations ∙ ap (λ p. made (stations_of bs) p (take count list)) long ∙ ap (made (stations_of bs) (length t.list.now)) links;
       list = same ∙ after;
-      costs = subst (λ k. Filled 0 (k * k) m.far t.costs.cells.now t'.costs.cells.now) stations costs;
-      predecessors = subst (λ k. Filled 0 (k * k) 65535 t.predecessors.cells.now t'.predecessors.cells.now) stations predecessors;
+      costs = subst (λ k. Filled 0 (k * k) m.far t.costs.now t'.costs.now) stations costs;
+      predecessors = subst (λ k. Filled 0 (k * k) 65535 t.predecessors.now t'.predecessors.now) stations predecessors;
     }

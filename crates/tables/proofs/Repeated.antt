@@ -41,8 +41,8 @@ module _ {K : Type 0} {m : Kind K} {t t' t'' : Tables K} where
   pub read_twice : {formed : ℕ → Option K} {bs : List ℕ} → Read m formed bs t t' → Read m formed bs t' t'' → Held t' t''
   read_twice {formed} {bs} first again =
       let links : List (Link K) = links_of m formed bs in
-      let list : t''.list.cells.now ≡ t'.list.cells.now =
-      again.list ∙ ap (fronted links) first.list ∙ fronted_twice links t.list.cells.now ∙ sym first.list in
+      let list : t''.list.now ≡ t'.list.now =
+      again.list ∙ ap (fronted links) first.list ∙ fronted_twice links t.list.now ∙ sym first.list in
       record {
         ledger = again.ledger ∙ ap (λ n. made (stations_of bs) n links) (ap (λ (g : Ledger K). g.places) first.ledger) ∙ sym first.ledger;
         list = list;
@@ -50,8 +50,8 @@ module _ {K : Type 0} {m : Kind K} {t t' t'' : Tables K} where
         predecessors = filled_twice first.predecessors again.predecessors;
       }
 
-  pub linked_twice : {g : Ledger K} → Relinked m g t t' → Relinked m g t' t'' → t''.list.cells.now ≡ t'.list.cells.now
-  linked_twice {g} first again = again.list ∙ ap (fronted g.links) first.list ∙ fronted_twice g.links t.list.cells.now ∙ sym first.list
+  pub linked_twice : {g : Ledger K} → Relinked m g t t' → Relinked m g t' t'' → t''.list.now ≡ t'.list.now
+  linked_twice {g} first again = again.list ∙ ap (fronted g.links) first.list ∙ fronted_twice g.links t.list.now ∙ sym first.list
 
 -- what the contract wants
 pub ruleset repeated = (made_twice, read_twice, linked_twice)

@@ -9,17 +9,20 @@ use Rattle.ledger.specs.View.{cleared}
 use Rattle.tables.specs.declared.state.Tables.{Tables}
 use Rattle.tables.specs.View.{ledger_of, row_of}
 use Rattle.tables.specs.Working.{Kept, SameBut}
+use Rattle.tables.specs.Lent.{SameMemory}
 use Rattle.tables.proofs.Keeping.{kept_row}
+use Rattle.tables.proofs.Memory.{memory_twice}
 
 -- the worked rows of t that are before `row` are cleared in s
 pub record Unworking {K : Type 0} (m : Kind K) (row : ℕ) (t s : Tables K) : Type 0 where
+  pub memory : SameMemory t s
   pub stations : s.stations ≡ t.stations
   pub count : s.count ≡ t.count
   pub worked : s.worked ≡ t.worked
-  pub list : s.list.cells.now ≡ t.list.cells.now
+  pub list : s.list.now ≡ t.list.now
   pub rows : (a : ℕ) → row_of m s a ≡ (if nat_lt a row && (ledger_of t).marked a then cleared m else row_of m t a)
-  pub costs_past : drop (t.stations * t.stations) s.costs.cells.now ≡ drop (t.stations * t.stations) t.costs.cells.now
-  pub predecessors_past : drop (t.stations * t.stations) s.predecessors.cells.now ≡ drop (t.stations * t.stations) t.predecessors.cells.now
+  pub costs_past : drop (t.stations * t.stations) s.costs.now ≡ drop (t.stations * t.stations) t.costs.now
+  pub predecessors_past : drop (t.stations * t.stations) s.predecessors.now ≡ drop (t.stations * t.stations) t.predecessors.now
 
 one_on : {R : Type 0} (marked : ℕ → Bool) (row a : ℕ) (x y : R) → (a ≢ row) ⊎ (marked row ≡ false) → (if nat_lt a row && marked a then x else y) ≡ (if nat_lt a (row + 1) && marked a then x else y)
 one_on marked row a x y other =
@@ -39,6 +42,7 @@ module _ {K : Type 0} (m : Kind K) where
   one_cleared {row} {t} {s} {s'} fits worked so_far clear kept =
       let marked : (ledger_of t).marked row ≡ true = sym (ap (λ w. slice_index_or w row false) so_far.worked) ∙ worked in
       record {
+        memory = memory_twice so_far.memory kept.memory;
         stations = kept.stations ∙ so_far.stations;
         count = kept.count ∙ so_far.count;
         worked = kept.worked ∙ so_far.worked;
@@ -48,12 +52,13 @@ module _ {K : Type 0} (m : Kind K) where
             (λ (here : a ≡ row). grind (arith, nat_tests, here, clear, marked))
             (λ (other : a ≢ row). kept_row m kept other ∙ so_far.rows a ∙ one_on (ledger_of t).marked row a (cleared m) (row_of m t a) (inl other))
             (cases_eq a row);
-        costs_past = subst (λ n. drop (n * n) s'.costs.cells.now ≡ drop (n * n) s.costs.cells.now) so_far.stations (past_kept s.stations row s.costs.cells.now s'.costs.cells.now kept.costs fits) ∙ so_far.costs_past;
-        predecessors_past = subst (λ n. drop (n * n) s'.predecessors.cells.now ≡ drop (n * n) s.predecessors.cells.now) so_far.stations (past_kept s.stations row s.predecessors.cells.now s'.predecessors.cells.now kept.predecessors fits) ∙ so_far.predecessors_past;
+        costs_past = subst (λ n. drop (n * n) s'.costs.now ≡ drop (n * n) s.costs.now) so_far.stations (past_kept s.stations row s.costs.now s'.costs.now kept.costs fits) ∙ so_far.costs_past;
+        predecessors_past = subst (λ n. drop (n * n) s'.predecessors.now ≡ drop (n * n) s.predecessors.now) so_far.stations (past_kept s.stations row s.predecessors.now s'.predecessors.now kept.predecessors fits) ∙ so_far.predecessors_past;
       }
 
   pub one_passed : {row : ℕ} {t s : Tables K} → (ledger_of s).marked row ≡ false → Unworking m row t s → Unworking m (row + 1) t s
   one_passed {row} {t} {s} unworked so_far = record {
+    memory = so_far.memory;
     stations = so_far.stations;
     count = so_far.count;
     worked = so_far.worked;

@@ -7,6 +7,6 @@ use Rattle.tables.specs.declared.state.Tables.{Tables}
 
 pub record Held {K : Type 0} (t t' : Tables K) : Type 0 where
   pub ledger : ledger_of t' ≡ ledger_of t
-  pub list : t'.list.cells.now ≡ t.list.cells.now
-  pub costs : t'.costs.cells.now ≡ t.costs.cells.now
-  pub predecessors : t'.predecessors.cells.now ≡ t.predecessors.cells.now
+  pub list : t'.list.now ≡ t.list.now
+  pub costs : t'.costs.now ≡ t.costs.now
+  pub predecessors : t'.predecessors.now ≡ t.predecessors.now

@@ -6,5 +6,7 @@ pub mod Made
 pub mod Read
 pub mod Relinked
 pub mod Again
-pub mod Indexed
 pub mod Copied
+pub mod Lent
+pub mod Rereads
+pub mod Copies

@@ -3,7 +3,7 @@
 --   file_refusal f places costs predecessors bs   the first refusal that fits a file read into a list of so many places, and for tables of so
 --                                                 many cells
 --   Read m formed bs t t'                         t' is t after the file bs was read: its links stand at the list's start, and the cells of
---                                                 its stations are cleared
+--                                                 its stations are cleared; the memory is the same
 use Rattle.std.specs.Prelude.{◌≡◌, ℕ, ◌*◌, ◌||◌, List, length, Option, nat_lt}
 use Rattle.std.specs.Option.{option_or}
 use Rattle.cost.specs.Kind.{Kind}
@@ -14,6 +14,7 @@ use Rattle.refusal.specs.declared.Code.{Code}
 use Rattle.planfile.specs.Fronted.{fronted}
 use Rattle.planfile.specs.Reading.{header_refusal, links_of, reading_refusal, stations_of}
 use Rattle.tables.specs.declared.state.Tables.{Tables}
+use Rattle.tables.specs.Lent.{SameMemory}
 use Rattle.tables.specs.View.{ledger_of}
 use Rattle.tables.specs.Filled.{Filled}
 use Rattle.tables.specs.Made.{made}
@@ -26,7 +27,8 @@ file_refusal f places costs predecessors bs =
     (reading_refusal f places bs))
 
 pub record Read {K : Type 0} (m : Kind K) (formed : ℕ → Option K) (bs : List ℕ) (t t' : Tables K) : Type 0 where
-  pub ledger : ledger_of t' ≡ made (stations_of bs) (length t.list.cells.now) (links_of m formed bs)
-  pub list : t'.list.cells.now ≡ fronted (links_of m formed bs) t.list.cells.now
-  pub costs : Filled 0 (stations_of bs * stations_of bs) m.far t.costs.cells.now t'.costs.cells.now
-  pub predecessors : Filled 0 (stations_of bs * stations_of bs) 65535 t.predecessors.cells.now t'.predecessors.cells.now
+  pub memory : SameMemory t t'
+  pub ledger : ledger_of t' ≡ made (stations_of bs) (length t.list.now) (links_of m formed bs)
+  pub list : t'.list.now ≡ fronted (links_of m formed bs) t.list.now
+  pub costs : Filled 0 (stations_of bs * stations_of bs) m.far t.costs.now t'.costs.now
+  pub predecessors : Filled 0 (stations_of bs * stations_of bs) 65535 t.predecessors.now t'.predecessors.now

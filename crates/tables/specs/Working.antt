@@ -5,7 +5,8 @@
 --   state_of m t a firsts queue   the state of row a: its labels and predecessors, the first stations, and the queue
 --   offer_of o                    an offer as it is made
 --   SameBut n a xs ys             ys is xs but for row a
---   Kept a t t'                   t' is t but for row a of both tables
+--   Kept a t t'                   t' is t, over the same memory, but for row a of both tables
+--   RowFilled a t t'              ... and row a is marked
 use Rattle.std.specs.Prelude.{◌≡◌, ℕ, ◌+◌, ◌*◌, ◌<◌, ◌≤◌, true, List, Option, None, length, slice_index_or, slice_set, ◌⊎◌}
 use Rattle.cost.specs.Kind.{Kind}
 use Rattle.queue.specs.Meaning.{Meaning}
@@ -15,6 +16,7 @@ use Rattle.routes.specs.State.{State, written}
 use Rattle.routes.specs.Offers.{Offer}
 use Rattle.ledger.specs.View.{stored}
 use Rattle.tables.specs.declared.state.Tables.{Tables}
+use Rattle.tables.specs.Lent.{SameMemory}
 use Rattle.tables.specs.declared.labels.Offer.{Offer as Made}
 use Rattle.tables.specs.View.{row_of}
 
@@ -39,17 +41,20 @@ pub record SameBut {X : Type 0} (n a : ℕ) (xs ys : List X) : Type 0 where
   pub others : (i : ℕ) (d : X) → (i < a * n) ⊎ (a * n + n ≤ i) → slice_index_or ys i d ≡ slice_index_or xs i d
 
 pub record Kept {K : Type 0} (a : ℕ) (t t' : Tables K) : Type 0 where
+  pub memory : SameMemory t t'
   pub stations : t'.stations ≡ t.stations
   pub count : t'.count ≡ t.count
   pub worked : t'.worked ≡ t.worked
-  pub list : t'.list.cells.now ≡ t.list.cells.now
-  pub costs : SameBut t.stations a t.costs.cells.now t'.costs.cells.now
-  pub predecessors : SameBut t.stations a t.predecessors.cells.now t'.predecessors.cells.now
+  pub list : t'.list.now ≡ t.list.now
+  pub departures : t'.departures ≡ t.departures
+  pub costs : SameBut t.stations a t.costs.now t'.costs.now
+  pub predecessors : SameBut t.stations a t.predecessors.now t'.predecessors.now
 
 pub record RowFilled {K : Type 0} (a : ℕ) (t t' : Tables K) : Type 0 where
+  pub memory : SameMemory t t'
   pub stations : t'.stations ≡ t.stations
   pub count : t'.count ≡ t.count
   pub worked : t'.worked ≡ slice_set t.worked a true
-  pub list : t'.list.cells.now ≡ t.list.cells.now
-  pub costs : SameBut t.stations a t.costs.cells.now t'.costs.cells.now
-  pub predecessors : SameBut t.stations a t.predecessors.cells.now t'.predecessors.cells.now
+  pub list : t'.list.now ≡ t.list.now
+  pub costs : SameBut t.stations a t.costs.now t'.costs.now
+  pub predecessors : SameBut t.stations a t.predecessors.now t'.predecessors.now

@@ -14,5 +14,5 @@ ghost use Rattle.tables.specs.declared.state.Tables.{Tables};
 pub fn again_is_no_change<K>()
     ensures made { (m : Kind K) (n : ℕ) (t t' t'' : Tables K) → Made m n t t' → Made m n t' t'' → Held t' t'' }
     ensures read { (m : Kind K) (formed : ℕ → Option K) (bs : List ℕ) (t t' t'' : Tables K) → Read m formed bs t t' → Read m formed bs t' t'' → Held t' t'' }
-    ensures relinked { (m : Kind K) (g : Ledger K) (t t' t'' : Tables K) → Relinked m g t t' → Relinked m g t' t'' → t''.list.cells.now ≡ t'.list.cells.now }
+    ensures relinked { (m : Kind K) (g : Ledger K) (t t' t'' : Tables K) → Relinked m g t t' → Relinked m g t' t'' → t''.list.now ≡ t'.list.now }
 {}

@@ -3,7 +3,7 @@ ghost use Rattle.std.specs.Prelude.{◌≡◌, ◌<◌, ◌≤◌, ◌++◌, len
 ghost use Rattle.ledger.specs.Effects.{CheckEffect, CostEffect, RouteEffect, way};
 ghost use Rattle.tables.specs.View.{ledger_of, row_of, view_of};
 
-use super::state::Tables;
+use super::state::{Tables, at};
 use cost::Cost;
 use planfile::Counts;
 use refusal::Refusal;
@@ -11,7 +11,7 @@ use rowcheck::test_row;
 
 impl<'a, K: Cost> Tables<'a, K> {
     // How many stations there are, and laid links.
-    pub fn counts(&self) -> Counts
+    pub(crate) fn counted(&self) -> Counts
         ensures stations { result.stations ≡ (ledger_of self.now).stations }
         ensures links { result.links ≡ length (ledger_of self.now).links }
     {
@@ -22,7 +22,7 @@ impl<'a, K: Cost> Tables<'a, K> {
     }
 
     // The cost that a worked row holds of a station.
-    pub fn cost_at(&self, from: u16, to: u16) -> Result<K, Refusal>
+    pub(crate) fn cost_at(&self, from: u16, to: u16) -> Result<K, Refusal>
         ensures effect { CostEffect (view_of K.Cost.kind self.now) from to result }
     {
         if from >= self.stations || to >= self.stations {
@@ -36,7 +36,7 @@ impl<'a, K: Cost> Tables<'a, K> {
 
     // Writes the way back from a station below FAR, by the predecessors of a worked row, at the start of the list, and answers how many stations it has.
     // Places after them stay.
-    pub fn trace_route(&self, from: u16, to: u16, list: &mut [u16]) -> Result<usize, Refusal>
+    pub(crate) fn trace_route(&self, from: u16, to: u16, list: &mut [u16]) -> Result<usize, Refusal>
         ensures effect { RouteEffect K.Cost.kind (view_of K.Cost.kind self.now) from to list.old list.new result }
     {
         if self.cost_at(from, to)?.rank() == u64::MAX {
@@ -51,10 +51,15 @@ impl<'a, K: Cost> Tables<'a, K> {
     }
 
     // Tests a supplier's row against the laid links.
-    pub fn test_row(&self, source: u16, costs: &[K], predecessors: &[u16]) -> Result<(), Refusal>
+    pub(crate) fn test_row(
+        &self,
+        source: u16,
+        costs: &[K],
+        predecessors: &[u16],
+    ) -> Result<(), Refusal>
         ensures effect { CheckEffect K.Cost.kind (ledger_of self.now) source costs.now predecessors.now result }
     {
-        let links = self.list.first(self.count as usize);
+        let links = &self.list[..self.count as usize];
         test_row(self.stations, links, source, costs, predecessors)
     }
 
@@ -66,7 +71,7 @@ impl<'a, K: Cost> Tables<'a, K> {
         if station >= self.stations {
             return None;
         }
-        match self.predecessors.at(self.place(row, station)) {
+        match at(self.predecessors, self.place(row, station)) {
             u16::MAX => None,
             before => Some(before),
         }

@@ -3,20 +3,20 @@ ghost use Rattle.std.specs.Prelude.{◌≡◌, ◌+◌, ◌*◌, ◌<◌, ◌≤
 ghost use Rattle.tables.specs.Copied.{befores, numbers, CopyEffect};
 ghost use Rattle.tables.specs.View.{ledger_of, row_of, view_of};
 
-use super::state::Tables;
+use super::state::{Tables, at};
 use cost::{Cost, Link};
 use refusal::Refusal;
 
 impl<'a, K: Cost> Tables<'a, K> {
     // The laid links.
-    pub fn links(&self) -> &[Link<K>]
+    pub(crate) fn laid(&self) -> &[Link<K>]
         ensures value { result.now ≡ (ledger_of self.now).links }
     {
-        self.list.first(self.count as usize)
+        &self.list[..self.count as usize]
     }
 
     // Copies a worked row to the start of two lists: costs by their ranks, and predecessors. Places after them stay.
-    pub fn copy_row(
+    pub(crate) fn copy_worked(
         &self,
         source: u16,
         costs: &mut [u64],
@@ -49,7 +49,7 @@ impl<'a, K: Cost> Tables<'a, K> {
         let stations = self.stations as usize;
         let from = source as usize * stations;
         for (station, cost) in costs[..stations].iter_mut().enumerate() {
-            *cost = self.costs.at(from + station).rank();
+            *cost = at(self.costs, from + station).rank();
         }
     }
 
@@ -63,7 +63,7 @@ impl<'a, K: Cost> Tables<'a, K> {
         let stations = self.stations as usize;
         let from = source as usize * stations;
         for (station, predecessor) in predecessors[..stations].iter_mut().enumerate() {
-            *predecessor = self.predecessors.at(from + station);
+            *predecessor = at(self.predecessors, from + station);
         }
     }
 }

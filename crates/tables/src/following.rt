@@ -1,6 +1,7 @@
 // What a station that is taken offers to others.
-ghost use Rattle.std.specs.Prelude.{◌≡◌, ◌*◌, ◌<◌, ◌≢◌, IfSome, Some, if◌then◌else◌};
-ghost use Rattle.std.specs.List.{range_with_len, slice_get};
+ghost use Rattle.std.specs.Prelude.{◌≡◌, ◌*◌, ◌<◌, ◌≢◌, IfSome, Some, if◌then◌else◌, slice_index_or};
+ghost use Rattle.std.specs.List.{range_with_len};
+ghost use Rattle.cost.specs.declared.link.Link.{Link as LinkOf};
 ghost use Rattle.routes.specs.Methods.{guided};
 ghost use Rattle.routes.specs.Offers.{offered, offered_all};
 ghost use Rattle.tables.specs.View.{ledger_of, row_of};
@@ -8,7 +9,7 @@ ghost use Rattle.tables.specs.Working.{state_of, Kept};
 ghost use Rattle.tables.specs.Following.{along, along_cell, first_by, guide_row, over, over_link};
 
 use super::labels::Offer;
-use super::state::Tables;
+use super::state::{Tables, at};
 use cost::{Cost, Link};
 use queue::Queue;
 
@@ -47,15 +48,13 @@ impl Trail {
 }
 
 impl<'a, K: Cost> Tables<'a, K> {
-    // The laid link at a place, if there is one.
-    fn link(&self, place: u16) -> Option<Link<K>>
-        ensures value { result ≡ slice_get (ledger_of self.now).links place }
-        ensures between { IfSome result (λ l. (l.from < self.now.stations) × (l.to < self.now.stations)) }
+    // The laid link at a place.
+    fn link(&self, place: u16) -> Link<K>
+        requires { place < self.now.count }
+        ensures value { (d : LinkOf K) → result ≡ slice_index_or (ledger_of self.now).links place d }
+        ensures between { (result.from < self.now.stations) × (result.to < self.now.stations) }
     {
-        if place >= self.count {
-            return None;
-        }
-        Some(self.list.at(place as usize))
+        at(self.list, place as usize)
     }
 
     // Whether a link is tight in the guiding row, where there is one.
@@ -103,7 +102,7 @@ impl<'a, K: Cost> Tables<'a, K> {
         }
     }
 
-    // Follows the links that leave the station.
+    // Follows the links that leave the station. Their places stand side by side, so that loads of them do not wait for one another.
     pub(crate) fn follow_links<Q: Queue>(
         &mut self,
         taken: Taken<K>,
@@ -119,10 +118,10 @@ impl<'a, K: Cost> Tables<'a, K> {
         ensures kept { Kept taken.source self.old self.new }
         ensures queue { (Q.Queue.meaning queue.new).stations ≡ (Q.Queue.meaning queue.old).stations }
     {
-        let mut at = self.departures.first(taken.station);
-        while let Some(link) = self.link(at) {
+        let part = self.departures.range(taken.station);
+        for index in part.start..part.end {
+            let link = self.link(self.departures.place(index));
             self.follow_link(taken, link, firsts, queue);
-            at = self.departures.next(at);
         }
     }
 
@@ -149,8 +148,8 @@ impl<'a, K: Cost> Tables<'a, K> {
         let offer = Offer {
             from: taken.from,
             station,
-            cost: taken.label.join(self.costs.at(place)),
-            predecessor: self.predecessors.at(place),
+            cost: taken.label.join(self.costs[place]),
+            predecessor: self.predecessors[place],
             first: None,
             puts: false,
         };

@@ -6,7 +6,7 @@ ghost use Rattle.ledger.specs.View.{cleared};
 ghost use Rattle.tables.specs.View.{row_of};
 ghost use Rattle.tables.specs.Working.{begun_row, state_of, offer_of, Kept};
 
-use super::state::Tables;
+use super::state::{Tables, at, fill, set};
 use cost::Cost;
 use queue::Queue;
 
@@ -49,7 +49,7 @@ impl<'a, K: Cost> Tables<'a, K> {
         requires station { station < self.now.stations }
         ensures value { result ≡ (row_of K.Cost.kind self.now row).costs station }
     {
-        self.costs.at(self.place(row, station))
+        at(self.costs, self.place(row, station))
     }
 
     // Clears a row: FAR and no predecessor throughout.
@@ -60,8 +60,8 @@ impl<'a, K: Cost> Tables<'a, K> {
     {
         let from = row as usize * self.stations as usize;
         let to = from + self.stations as usize;
-        self.costs.fill(from, to, K::far());
-        self.predecessors.fill(from, to, u16::MAX);
+        fill(self.costs, from, to, K::far());
+        fill(self.predecessors, from, to, u16::MAX);
     }
 
     // Begins a row: the source at zero, every other station at FAR.
@@ -72,10 +72,10 @@ impl<'a, K: Cost> Tables<'a, K> {
     {
         self.clear_row(source);
         let place = self.place(source, source);
-        self.costs.set(place, K::zero());
+        set(self.costs, place, K::zero());
     }
 
-    // Makes an offer to a station: it is accepted where it is below the station's label.
+    // Makes an offer to a station: it is accepted where it is below the station's label. Elsewhere that is called relaxation.
     #[tactic(auto, using(crate::proofs::Accepted::accepted_state))]
     pub(crate) fn offer<Q: Queue>(
         &mut self,
@@ -92,9 +92,9 @@ impl<'a, K: Cost> Tables<'a, K> {
         ensures kept { Kept source self.old self.new }
     {
         let place = self.place_from(offer.from, source, offer.station);
-        if offer.cost.rank() < self.costs.at(place).rank() {
-            self.costs.set(place, offer.cost);
-            self.predecessors.set(place, offer.predecessor);
+        if offer.cost.rank() < self.costs[place].rank() {
+            set(self.costs, place, offer.cost);
+            set(self.predecessors, place, offer.predecessor);
             firsts[offer.station as usize] = offer.first;
             put_or_lower(queue, offer.station, offer.cost.rank(), offer.puts);
         }

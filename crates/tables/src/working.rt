@@ -117,7 +117,7 @@ impl<'a, K: Cost> Tables<'a, K> {
 
     // Works a row by a method, with a queue that is reset for it, and marks it worked. Refused are a source that is no station, and a row that is
     // worked. The row is cleared before it begins, so that its run hangs on no cell of it.
-    pub fn fill_row<Q: Queue>(
+    pub(crate) fn fill_row<Q: Queue>(
         &mut self,
         source: u16,
         method: Method,
@@ -142,7 +142,7 @@ impl<'a, K: Cost> Tables<'a, K> {
         Ok(())
     }
 
-    // Takes station after station, and makes its offers, until nobody waits.
+    // Takes station after station, and makes its offers, until nobody waits. By plain that is Dijkstra's method.
     fn run<Q: Queue>(&mut self, method: Method, source: u16, queue: &mut Q)
         requires source { source < self.old.stations }
         requires unworked { (ledger_of self.old).marked source ≡ false }

@@ -2,6 +2,7 @@ use Rattle.std.proofs.Common.{rules, arith}
 use Rattle.plan.specs.View.{view}
 use Rattle.listing.specs.AllRows.{none, one_more}
 use Rattle.listing.proofs.WorkedRows.{none_marked, one_marked, worked_on}
+use Rattle.listing.proofs.Memory.{all_memory}
 use Rattle.listing.proofs.works.work_all.Goals as goal
 
 pub loop-source-init : goal.loop-source-init
@@ -25,3 +26,6 @@ loop-source-preserved g c =
       logged = λ start log stands.
           worked_on m c.args.method start log c.loop-source.source (c.work.ensures.logged.stands start _ (so_far.logged start log stands));
     }
+
+pub returns-clause-memory : goal.returns-clause-memory
+returns-clause-memory g c = all_memory c.loop-source.invariant.rows

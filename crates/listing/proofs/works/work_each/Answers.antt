@@ -3,6 +3,7 @@ use Rattle.ledger.specs.Stands.{Stands}
 use Rattle.plan.specs.View.{view}
 use Rattle.listing.specs.InTurn.{works_of, InTurn, none, one_more}
 use Rattle.listing.proofs.Turns.{network_stays, no_work, one_more_taken, work_more}
+use Rattle.listing.proofs.Memory.{turn_memory}
 use Rattle.listing.proofs.works.work_each.Goals as goal
 
 pub loop-source-init : goal.loop-source-init
@@ -24,3 +25,6 @@ loop-source-preserved g c =
           subst (λ done. Stands m start (log ++ works_of done c.args.method) (view m c.work.new.self)) more
           (work_more m c.args.method start log (take i c.args.sources.now) a (worked.logged.stands start _ (so_far.logged start log stands)));
     }
+
+pub returns-clause-memory : goal.returns-clause-memory
+returns-clause-memory g c = turn_memory c.loop-source.invariant.rows

@@ -5,6 +5,7 @@ use Rattle.ledger.specs.Stands.{Stands}
 use Rattle.plan.specs.View.{view}
 use Rattle.listing.specs.AllRows.{works, AllWorked}
 use Rattle.listing.specs.InTurn.{works_of}
+use Rattle.tables.proofs.Memory.{memory_twice}
 use Rattle.listing.proofs.works.work_table.Goals as goal
 
 pub returns-clause-rows : goal.returns-clause-rows
@@ -23,3 +24,6 @@ returns-clause-rows g c =
           subst (λ n. Stands m start ((log ++ works_of sources Reuse) ++ works n Reuse) (view m c.work_all.new.plan)) same
           (c.work_all.ensures.logged start _ (c.work_each.ensures.logged start log stands));
     }
+
+pub returns-clause-memory : goal.returns-clause-memory
+returns-clause-memory g c = memory_twice c.work_each.ensures.memory c.work_all.ensures.memory

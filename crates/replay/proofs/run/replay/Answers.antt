@@ -16,3 +16,6 @@ loop-index-preserved g c = search (rules, goes_on)
 
 pub returns-clause-replayed : goal.returns-clause-replayed
 returns-clause-replayed g c start log stands = ends c.loop-index.invariant (omega arith) stands
+
+pub returns-clause-memory : goal.returns-clause-memory
+returns-clause-memory g c = c.loop-index.invariant.memory

@@ -13,5 +13,5 @@ loop-station-preserved g c =
     let v = c.loop-station.station in
     let there : v < n = omega (arith, c.loop-station-test.true, length-take-le n c.args.costs.now c.requires.room) in
     let value : c.rank.result ≡ m.rank ((row_of m t c.args.source).costs v) =
-    c.rank.ensures.value ∙ ap m.rank (c.at.ensures m.far ∙ sym (cell_there n t.costs.cells.now m.far c.args.source v there)) in
+    c.rank.ensures.value ∙ ap m.rank (c.at.ensures m.far ∙ sym (cell_there n t.costs.now m.far c.args.source v there)) in
     rw (c.loop-station.invariant, value) (copied_more (λ b. m.rank ((row_of m t c.args.source).costs b)) n v c.args.costs.now c.requires.room there)

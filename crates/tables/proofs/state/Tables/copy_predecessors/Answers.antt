@@ -14,5 +14,5 @@ loop-station-preserved g c =
     let v = c.loop-station.station in
     let there : v < n = omega (arith, c.loop-station-test.true, length-take-le n c.args.predecessors.now c.requires.room) in
     let value : c.at.result ≡ unwrap_or ((row_of m t c.args.source).predecessors v) 65535 =
-    c.at.ensures 65535 ∙ sym (before_there n t.predecessors.cells.now c.args.source v there) in
+    c.at.ensures 65535 ∙ sym (before_there n t.predecessors.now c.args.source v there) in
     rw (c.loop-station.invariant, value) (copied_more (λ b. unwrap_or ((row_of m t c.args.source).predecessors b) 65535) n v c.args.predecessors.now c.requires.room there)

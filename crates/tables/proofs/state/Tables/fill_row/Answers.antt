@@ -11,14 +11,17 @@ pub returns-clause-after : goal.returns-clause-after
 returns-clause-after g c =
     let ran = c.run.ensures.kept in
     let since : Kept c.args.source c.begin_row.new.self c.run.new.self = record {
+      memory = record { list = ran.memory.list; costs = ran.memory.costs; predecessors = ran.memory.predecessors };
       stations = ran.stations;
       count = ran.count;
       worked = ran.worked;
       list = ran.list;
+      departures = ran.departures;
       costs = ran.costs;
       predecessors = ran.predecessors;
     } in
     let kept = kept_twice c.begin_row.ensures.kept since in record {
+      memory = record { list = kept.memory.list; costs = kept.memory.costs; predecessors = kept.memory.predecessors };
       stations = kept.stations;
       count = kept.count;
       worked = ap (λ w. slice_set w c.args.source true) kept.worked;

@@ -1,36 +1,39 @@
--- The thread begins at the first link, goes on at the next, and ends where none is left. What the row is worked from is as it was.
-use Rattle.std.proofs.Common.{◌∙◌, arith, refl, sym, ap, rules}
-use Rattle.std.specs.List.{slice_get}
-use Rattle.tables.proofs.Keeping.{kept_guide, kept_itself, kept_links, kept_threads, kept_twice}
-use Rattle.tables.proofs.Thread.{thread_begins, thread_ends, thread_goes_on, thread_moves}
+-- Each index of the part holds the place of a laid link. What the row is worked from is as it was.
+use Rattle.std.specs.Prelude.{slice_index_or}
+use Rattle.std.proofs.Common.{◌∙◌, arith, refl, ap, rules}
+use Rattle.std.proofs.lemmas.List.{length-take}
+use Rattle.departures.specs.Index.{place_at}
+use Rattle.departures.proofs.Parts.{place_within}
+use Rattle.tables.proofs.Keeping.{kept_guide, kept_itself, kept_links, kept_twice}
+use Rattle.tables.proofs.Part.{no_link, part_begins, part_goes_on}
+use Rattle.tables.specs.View.{ledger_of}
 use Rattle.tables.proofs.state.Tables.follow_links.Goals as goal
 
-pub loop-link-init : goal.loop-link-init
-loop-link-init g c = record {
+pub loop-index-init : goal.loop-index-init
+loop-index-init g c = record {
   kept = kept_itself c.args.taken.source c.args.self.now;
   same_stations = refl;
-  so_far = rw c.first-at.ensures.value (thread_begins c.args.self.now.indexed.threads (search rules) (search rules) _);
+  so_far = rw c.range-part.ensures.begin (part_begins g.K.Cost.kind c.args.taken.label c.args.taken.station _ _ _ _ c.args.self.now.indexed (search rules) (search rules) _);
 }
 
-pub loop-link-smaller : goal.loop-link-smaller
-loop-link-smaller g c =
-    let so_far = c.loop-link.invariant in
-    let there = ap (λ ls. slice_get ls c.loop-link.at) (sym (kept_links so_far.kept)) ∙ sym c.link.ensures.value ∙ c.in-Some.is in
-    let moves = thread_moves (kept_threads (kept_twice so_far.kept c.follow_link.ensures.kept)) (search rules) (search rules) there so_far.so_far in
-    omega (arith, moves.0, moves.1, c.next-at.ensures.value)
+pub link-link-requires : goal.link-link-requires
+link-link-requires g c =
+    let t = c.args.self.now in
+    let kept = c.loop-index.invariant.kept in
+    let there = place_within t.indexed (search rules) c.args.taken.station (search rules) c.loop-index.index (search rules) (search rules) in
+    let place = c.place.ensures.value ∙ ap (λ d. place_at d c.loop-index.index) kept.departures in
+    omega (arith, there, place, kept.count, length-take t.count t.list.now)
 
-pub loop-link-preserved : goal.loop-link-preserved
-loop-link-preserved g c =
-    let so_far = c.loop-link.invariant in
-    let there = ap (λ ls. slice_get ls c.loop-link.at) (sym (kept_links so_far.kept)) ∙ sym c.link.ensures.value ∙ c.in-Some.is in
+pub loop-index-preserved : goal.loop-index-preserved
+loop-index-preserved g c =
+    let m = g.K.Cost.kind in
+    let so_far = c.loop-index.invariant in
+    let links = (ledger_of c.args.self.now).links in
+    let link = c.link-link.ensures.value (no_link m)
+    ∙ ap (λ ls. slice_index_or ls c.place.result (no_link m)) (kept_links so_far.kept)
+    ∙ ap (λ k. slice_index_or links k (no_link m)) (c.place.ensures.value ∙ ap (λ d. place_at d c.loop-index.index) so_far.kept.departures) in
     let step = c.follow_link.ensures in record {
       kept = kept_twice so_far.kept step.kept;
       same_stations = step.queue ∙ so_far.same_stations;
-      so_far = rw c.next-at.ensures.value (thread_goes_on (kept_threads (kept_twice so_far.kept c.follow_link.ensures.kept)) (search rules) (search rules) there so_far.so_far (rw (kept_guide g.K.Cost.kind so_far.kept c.args.taken.guide c.requires.guide) at step.state));
+      so_far = part_goes_on m c.args.taken.label c.args.taken.station _ _ _ _ (search rules) so_far.so_far link (rw (kept_guide m so_far.kept c.args.taken.guide c.requires.guide) at step.state);
     }
-
-pub returns-clause-state : goal.returns-clause-state
-returns-clause-state g c =
-    let so_far = c.loop-link.invariant in
-    let none = ap (λ ls. slice_get ls c.loop-link.at) (sym (kept_links so_far.kept)) ∙ sym c.link.ensures.value ∙ c.in_default.is in
-    thread_ends (kept_threads so_far.kept) (search rules) (search rules) none so_far.so_far

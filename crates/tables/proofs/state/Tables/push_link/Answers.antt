@@ -1,4 +1,4 @@
--- The threads are those of the links that are laid now.
+-- The index is that of the links that are laid now.
 use Rattle.std.proofs.Common.{rules}
 use Rattle.tables.proofs.Between.{between_set}
 use Rattle.tables.proofs.state.Tables.push_link.Goals as goal
@@ -12,6 +12,6 @@ invariant_of-self g c = record {
   list_short = search rules;
   costs_fit = c.args.self.now.costs_fit;
   predecessors_fit = c.args.self.now.predecessors_fit;
-  between = rw c.set.ensures (between_set c.args.self.now.stations c.args.self.now.count c.args.self.now.list.cells.now c.args.link c.args.self.now.between c.requires.stations c.requires.room);
-  indexed = record { threads = rw c.first.ensures at c.of-self.ensures.threads };
+  between = rw c.put-self.ensures.list (between_set c.args.self.now.stations c.args.self.now.count c.args.self.now.list.now c.args.link c.args.self.now.between c.requires.stations c.requires.room);
+  indexed = c.put-self.ensures.indexed;
 }
