@@ -1,6 +1,6 @@
--- The answers by hand to a list of calls, and that a replay of these calls gives them.
+-- The replies by hand to a list of calls, and that a replay of these calls gives them.
 --
---   computed hand g es old     the calls es, each beside its answer by hand, from the ledger g on; their places held old
+--   computed hand g es old     the calls es, each beside its reply by hand, from the ledger g on; their places held old
 --   all_sound hand g es        each of them is sound by the ledger that the calls before it left
 use Rattle.std.proofs.Common.{◌≡◌, ℕ, zero, suc, ◌+◌, ◌<◌, Bool, true, ◌&&◌, List, [], ◌∷◌, ◌++◌, length, map, take, drop}
 use Rattle.std.proofs.Common.{Some, Ok, option_map, unwrap_or, append_assoc, refl, ap, subst, sym, ◌∙◌, arith}
@@ -27,7 +27,7 @@ use Rattle.replay.specs.declared.entry.Entry.{Entry as Given}
 use Rattle.replay.specs.declared.entry.Entry.TheVariants.{Lay, Lift, Work, Cost, Route, Check}
 use Rattle.replay.specs.declared.entry.Answer.{Answer}
 use Rattle.replay.specs.declared.entry.Answer.TheVariants.{Lay as Laid, Lift as Lifted, Work as Worked, Cost as Costed, Route as Routed, Check as Checked}
-use Rattle.campuses.specs.Asked.{Asked, ranked, spots}
+use Rattle.campuses.specs.Asked.{Asked, Reply, laid, lifted, worked, costed, routed, checked, reply, spots}
 use Rattle.campuses.proofs.Expected.{Hand, sound, expected, placed}
 use Rattle.campuses.proofs.Settled.{unit_told, work_settled, cost_settled, route_settled, check_settled}
 
@@ -55,7 +55,7 @@ same_places (Check a xs ys) = refl
 
 module _ (hand : Hand) where
   abbrev pub answered : Ledger Sum → Entry Sum → List ℕ → Asked
-  answered g e old = record { call = e; answer = expected hand g e old; places = placed hand g e old }
+  answered g e old = record { call = e; reply = expected hand g e old; places = placed hand g e old }
 
   abbrev pub computed : Ledger Sum → List (Entry Sum) → List ℕ → List Asked
   computed g [] old = []
@@ -69,17 +69,17 @@ module _ (hand : Hand) where
   module _ (g : Ledger Sum) (fair : Fair sum_kind (network g)) (before after : Moment Sum)
       (right : (a : ℕ) → a < g.stations → g.marked a ≡ true → Right sum_kind (network g) a ((view sum_kind before.plan).rows a)) where
     settle : (e : Given Sum) (a : Answer Sum) (old new : List ℕ) → sound hand g (meant e) ≡ true → Says sum_kind g before after e a (take (places_of e) old) (take (places_of e) new)
-        → (ranked a ≡ expected hand g (meant e) (take (places_of e) old)) × (take (places_of e) new ≡ placed hand g (meant e) (take (places_of e) old))
-    settle (Lay a b c) (Laid r) old new passes says = (ap Laid (unit_told r (lay_refusal sum_kind g a b c) says passes), refl)
-    settle (Lift a b) (Lifted r) old new passes says = (ap Lifted (unit_told r (lift_refusal g a b) says passes), refl)
+        → (reply a ≡ expected hand g (meant e) (take (places_of e) old)) × (take (places_of e) new ≡ placed hand g (meant e) (take (places_of e) old))
+    settle (Lay a b c) (Laid r) old new passes says = (ap laid (unit_told r (lay_refusal sum_kind g a b c) says passes), refl)
+    settle (Lift a b) (Lifted r) old new passes says = (ap lifted (unit_told r (lift_refusal g a b) says passes), refl)
     settle (Work a method) (Worked r) old new passes says =
-        (ap Worked (work_settled hand g fair (view sum_kind before.plan).rows a method ((view sum_kind after.plan).rows a) after.queue r passes says.0 says.1), refl)
+        (ap worked (work_settled hand g fair (view sum_kind before.plan).rows a method ((view sum_kind after.plan).rows a) after.queue r passes says.0 says.1), refl)
     settle (Cost a b) (Costed r) old new passes says =
-        (ap Costed (cost_settled hand g fair a b ((view sum_kind before.plan).rows a) r passes says), refl)
+        (ap costed (cost_settled hand g fair a b ((view sum_kind before.plan).rows a) r passes says), refl)
     settle (Route a b places) (Routed r) old new passes says =
         let is = route_settled hand g fair a b ((view sum_kind before.plan).rows a) (right a) places (take places old) (take places new) r passes says in
-        (ap Routed is.0, is.1)
-    settle (Check a xs ys) (Checked r) old new passes says = (ap Checked (check_settled hand g fair a xs.now ys.now r passes says), refl)
+        (ap routed is.0, is.1)
+    settle (Check a xs ys) (Checked r) old new passes says = (ap checked (check_settled hand g fair a xs.now ys.now r passes says), refl)
     settle e a old new passes says = absurd says
 
   -- a call by its index
@@ -143,11 +143,11 @@ module _ (hand : Hand) where
       ∙ ap (λ z. spots (computed (entered sum_kind g (meant x)) (map meant es) (drop (places_in (meant x)) old)) ++ z) back)
       ∙ sym (append_assoc (placed hand g (meant x) (take (places_in (meant x)) old)) _ (drop (sum_by places_of (x ∷ es)) old))
 
-  -- a replay gives the answers by hand
+  -- a replay gives the replies by hand
   module _ {start : Ledger Sum} {es : List (Given Sum)} {answers : List (Answer Sum)} {old new : List ℕ} {before after : Moment Sum}
       (replayed : Replayed sum_kind start [] es answers old new before after (length es)) (all : all_sound start (map meant es) ≡ true) where
     settled_at : (i : ℕ) (b c : Moment Sum) (at : AnsweredAt sum_kind start [] es answers old new i b c)
-        → (ranked at.answer ≡ expected hand (at_index start es i) (meant at.entry) (part es i at.entry old))
+        → (reply at.answer ≡ expected hand (at_index start es i) (meant at.entry) (part es i at.entry old))
         × (part es i at.entry new ≡ placed hand (at_index start es i) (meant at.entry) (part es i at.entry old))
     settled_at i b c at =
         let holds : Holds sum_kind (view sum_kind b.plan) = at.stands.holds in
@@ -158,20 +158,20 @@ module _ (hand : Hand) where
         (drop (sum_by places_of (take i es)) old) (drop (sum_by places_of (take i es)) new)
         (sound_at es start i at.entry all at.entry_there) at.says
 
-    pub answers_by_hand : length answers ≡ length es → map ranked answers ≡ map (λ (x : Asked). x.answer) (computed start (map meant es) old)
+    pub answers_by_hand : length answers ≡ length es → map reply answers ≡ map (λ (x : Asked). x.reply) (computed start (map meant es) old)
     answers_by_hand long =
-        same_by_get (map ranked answers) (map answer_of (computed start (map meant es) old)) (Laid (Ok tt))
-        (length-map answers ranked ∙ long ∙ sym (length-map (computed start (map meant es) old) answer_of ∙ computed_long es start old))
-        (λ i within. at_one i (omega (arith, length-map answers ranked, long)))
+        same_by_get (map reply answers) (map reply_of (computed start (map meant es) old)) (laid (Ok tt))
+        (length-map answers reply ∙ long ∙ sym (length-map (computed start (map meant es) old) reply_of ∙ computed_long es start old))
+        (λ i within. at_one i (omega (arith, length-map answers reply, long)))
       where
-        answer_of : Asked → Answer ℕ
-        answer_of x = x.answer
+        reply_of : Asked → Reply
+        reply_of x = x.reply
 
-        at_one : (i : ℕ) → i < length es → slice_get (map ranked answers) i ≡ slice_get (map answer_of (computed start (map meant es) old)) i
+        at_one : (i : ℕ) → i < length es → slice_get (map reply answers) i ≡ slice_get (map reply_of (computed start (map meant es) old)) i
         at_one i within =
             let at = replayed.each i within in
-            slice_get-map ranked answers i ∙ ap (option_map ranked) at.answer_there ∙ ap Some (settled_at i _ _ at).0
-            ∙ sym (slice_get-map answer_of (computed start (map meant es) old) i ∙ ap (option_map answer_of) (computed_at es start old i at.entry at.entry_there))
+            slice_get-map reply answers i ∙ ap (option_map reply) at.answer_there ∙ ap Some (settled_at i _ _ at).0
+            ∙ sym (slice_get-map reply_of (computed start (map meant es) old) i ∙ ap (option_map reply_of) (computed_at es start old i at.entry at.entry_there))
 
     pub spots_by_hand : drop (sum_by places_of es) new ≡ drop (sum_by places_of es) old → new ≡ spots (computed start (map meant es) old) ++ drop (sum_by places_of es) old
     spots_by_hand past = spots_at es start old new parts past

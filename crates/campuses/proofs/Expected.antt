@@ -2,16 +2,17 @@
 --
 --   Hand                   rows by hand, and how the supplier's row fails that is tested
 --   sound hand g e         the call e is not refused by the ledger g, or for its list alone; the rows that it rests on pass all tests
---   expected hand g e old  its answer, where its places hold old
+--   expected hand g e old  its reply, where its places hold old
 --   placed hand g e old    what they hold then
 use Rattle.std.proofs.Common.{ℕ, Bool, true, ◌&&◌, ◌==◌, nat_lt, if◌then◌else◌}
 use Rattle.std.proofs.Common.{List, ◌++◌, length, drop, is_none, Ok, Err}
 use Rattle.std.specs.Prelude.{Result}
 use Rattle.cost.specs.Sum.{sum_kind}
 use Rattle.cost.specs.declared.sum.Sum.{Sum}
+use Rattle.refusal.specs.Code.{bare}
+use Rattle.refusal.specs.declared.Code.{Code}
+use Rattle.refusal.specs.declared.Facts.TheVariants.{AtStation}
 use Rattle.refusal.specs.declared.Failing.{Failing}
-use Rattle.refusal.specs.declared.Refusal.{Refusal}
-use Rattle.refusal.specs.declared.Refusal.TheVariants.{ShortBuffer, Row as FailingRow}
 use Rattle.routes.proofs.ByHand.{passes_all, one_tight, fails_only}
 use Rattle.routes.specs.Fails.{fails}
 use Rattle.routes.specs.Row.{Row}
@@ -24,12 +25,11 @@ use Rattle.ledger.specs.Refusals.{lay_refusal, lift_refusal, work_refusal, cost_
 use Rattle.ledger.specs.RouteAnswer.{route_refusal}
 use Rattle.ledger.specs.Traced.{traced}
 use Rattle.ledger.specs.View.{given}
-use Rattle.replay.specs.declared.entry.Answer.{Answer}
-use Rattle.replay.specs.declared.entry.Answer.TheVariants.{Lay as Laid, Lift as Lifted, Work as Worked, Cost as Costed, Route as Routed, Check as Checked}
+use Rattle.campuses.specs.Asked.{Reply, laid, lifted, worked, costed, routed, checked}
 
 -- stations that are written, where they fit, into a list that held old
-abbrev pub routed : List ℕ → List ℕ → Result ℕ Refusal
-routed old stations = if nat_lt (length old) (length stations) then Err ShortBuffer else Ok (length stations)
+abbrev pub fitting : List ℕ → List ℕ → Result ℕ Code
+fitting old stations = if nat_lt (length old) (length stations) then Err (bare 12) else Ok (length stations)
 
 abbrev pub written : List ℕ → List ℕ → List ℕ
 written old stations = if nat_lt (length old) (length stations) then old else stations ++ drop (length stations) old
@@ -65,13 +65,13 @@ module _ (hand : Hand) (g : Ledger Sum) where
       && (fails sum_kind (network g) a (given sum_kind xs ys) hand.failing.station hand.failing.cause
       && fails_only sum_kind (network g) a (given sum_kind xs ys) (λ B cause. B == hand.failing.station && cause == hand.failing.cause)))
 
-  abbrev pub expected : Entry Sum → List ℕ → Answer ℕ
-  expected (lay a b c) old = Laid (Ok tt)
-  expected (lift a b) old = Lifted (Ok tt)
-  expected (work a method) old = Worked (Ok (counted a))
-  expected (cost a b) old = Costed (Ok (sum_kind.rank ((hand.rows a).costs b)))
-  expected (route a b places) old = Routed (routed old (way a b))
-  expected (check a xs ys) old = Checked (Err (FailingRow hand.failing))
+  abbrev pub expected : Entry Sum → List ℕ → Reply
+  expected (lay a b c) old = laid (Ok tt)
+  expected (lift a b) old = lifted (Ok tt)
+  expected (work a method) old = worked (Ok (counted a))
+  expected (cost a b) old = costed (Ok (sum_kind.rank ((hand.rows a).costs b)))
+  expected (route a b places) old = routed (fitting old (way a b))
+  expected (check a xs ys) old = checked (Err (record { number = 14; facts = AtStation hand.failing }))
 
   abbrev pub placed : Entry Sum → List ℕ → List ℕ
   placed (lay a b c) old = old

@@ -1,6 +1,6 @@
 -- A call's answer is the one that the rows by hand give, where it is what the ledger asks for.
 use Rattle.std.proofs.Common.{◌≡◌, ◌≢◌, ℕ, ◌<◌, ◌≤◌, Bool, true, false, not, nat_lt, if◌then◌else◌, List, ◌++◌, length, drop}
-use Rattle.std.proofs.Common.{Option, Some, None, is_none, ◌&&◌, ◌||◌, ◌==◌, Result, Ok, Err, IfOk, OnErr, refl, ap, subst, sym, ◌∙◌, arith, rules}
+use Rattle.std.proofs.Common.{Option, Some, None, is_none, ◌&&◌, ◌||◌, ◌==◌, Result, Ok, Err, IfOk, OnErr, refl, ap, subst, sym, ◌∙◌, arith}
 use Rattle.std.specs.Prelude.{⊤}
 use Rattle.std.proofs.lemmas.Bool.{and_parts, true≢false}
 use Rattle.std.proofs.lemmas.Bool.Decides.{nat_tests}
@@ -8,13 +8,12 @@ use Rattle.cost.specs.Kind.{FAR, Below}
 use Rattle.cost.specs.Sum.{sum_kind}
 use Rattle.cost.specs.declared.sum.Sum.{Sum}
 use Rattle.queue.specs.Meaning.{Meaning}
-use Rattle.refusal.specs.Code.{bare, code_of}
+use Rattle.refusal.specs.Code.{bare}
 use Rattle.refusal.specs.First.{told, refused_if}
 use Rattle.refusal.specs.declared.Code.{Code}
 use Rattle.refusal.specs.declared.Facts.TheVariants.{AtStation}
 use Rattle.refusal.specs.declared.Failing.{Failing}
 use Rattle.refusal.specs.declared.Refusal.{Refusal}
-use Rattle.refusal.specs.declared.Refusal.TheVariants.{ShortBuffer, Row as FailingRow}
 use Rattle.routes.specs.Fails.{fails}
 use Rattle.routes.specs.Network.{Network}
 use Rattle.routes.specs.Row.{Row, Right}
@@ -37,32 +36,25 @@ use Rattle.ledger.specs.Refusals.{no_station, work_refusal, cost_refusal, check_
 use Rattle.ledger.specs.RouteAnswer.{RouteAnswer, route_refusal}
 use Rattle.ledger.specs.View.{given}
 use Rattle.ledger.proofs.FairKept.{one_per_pair}
-use Rattle.campuses.specs.Asked.{rank_told}
-use Rattle.campuses.proofs.Expected.{Hand, row_passes, counted, way, settled, sound, routed, written}
-
--- a refusal is told by its code
-row_code : (e : Refusal) (f : Failing) → code_of e ≡ record { number = 14; facts = AtStation f } → e ≡ FailingRow f
-row_code e f is = search rules
-
-short_code : (e : Refusal) → code_of e ≡ bare 12 → e ≡ ShortBuffer
-short_code e is = search rules
+use Rattle.campuses.specs.Asked.{coded, ranked}
+use Rattle.campuses.proofs.Expected.{Hand, row_passes, counted, way, settled, sound, fitting, written}
 
 none_is : {X : Type 0} (o : Option X) → is_none o ≡ true → o ≡ None
 none_is None is = refl
 none_is (Some x) is = absurd (cc is)
 
 -- an answer that tells of no refusal, of any sort
-pub unit_told : (r : Result ⊤ Refusal) (o : Option Code) → told r ≡ o → is_none o ≡ true → r ≡ Ok tt
+pub unit_told : (r : Result ⊤ Refusal) (o : Option Code) → told r ≡ o → is_none o ≡ true → coded r ≡ Ok tt
 unit_told (Ok x) o tells none = refl
 unit_told (Err e) o tells none = absurd (cc (tells, none_is o none))
 
 -- stations in a list that is long enough, or else none
 fitted : (old new stations : List ℕ) (r : Result ℕ Refusal) (short : Bool) → told r ≡ refused_if short (bare 12) None
     → IfOk r (λ n. (n ≡ length stations) × (new ≡ stations ++ drop n old)) → OnErr r (new ≡ old)
-    → (r ≡ (if short then Err ShortBuffer else Ok (length stations))) × (new ≡ (if short then old else stations ++ drop (length stations) old))
+    → (coded r ≡ (if short then Err (bare 12) else Ok (length stations))) × (new ≡ (if short then old else stations ++ drop (length stations) old))
 fitted old new stations (Ok n) true refusal is kept = absurd (cc refusal)
 fitted old new stations (Ok n) false refusal is kept = (ap Ok is.0, is.1 ∙ ap (λ k. stations ++ drop k old) is.0)
-fitted old new stations (Err e) true refusal is kept = (ap Err (short_code e (cc refusal)), kept)
+fitted old new stations (Err e) true refusal is kept = (ap Err (cc refusal), kept)
 fitted old new stations (Err e) false refusal is kept = absurd (cc refusal)
 
 module _ (hand : Hand) (g : Ledger Sum) (fair : Fair sum_kind (network g)) where
@@ -80,7 +72,7 @@ module _ (hand : Hand) (g : Ledger Sum) (fair : Fair sum_kind (network g)) where
   -- working a row
   module _ (rows : ℕ → Row Sum) (a : ℕ) (method : Method) (row : Row Sum) (queue : Meaning) where
     pub work_settled : (r : Result ℕ Refusal) → sound hand g (work a method) ≡ true → WorkAnswer sum_kind g rows a method r row queue
-        → IfOk r (λ taken. taken ≡ queue.taken) → r ≡ Ok (counted hand g a)
+        → IfOk r (λ taken. taken ≡ queue.taken) → coded r ≡ Ok (counted hand g a)
     work_settled (Err e) passes answer taken =
         let parts = and_parts (is_none (work_refusal g a)) _ passes in
         absurd (cc (answer.refusal, none_is (work_refusal g a) parts.0))
@@ -104,7 +96,7 @@ module _ (hand : Hand) (g : Ledger Sum) (fair : Fair sum_kind (network g)) where
   module _ (a b : ℕ) (row : Row Sum) where
     -- asking for a cost
     pub cost_settled : (r : Result Sum Refusal) → sound hand g (cost a b) ≡ true → CostAnswer sum_kind g row a b r
-        → rank_told r ≡ Ok (sum_kind.rank ((hand.rows a).costs b))
+        → ranked (coded r) ≡ Ok (sum_kind.rank ((hand.rows a).costs b))
     cost_settled (Err e) passes answer =
         let parts = and_parts (is_none (cost_refusal g a b)) (row_passes hand g a) passes in
         absurd (cc (answer.refusal, none_is (cost_refusal g a b) parts.0))
@@ -117,7 +109,7 @@ module _ (hand : Hand) (g : Ledger Sum) (fair : Fair sum_kind (network g)) where
     -- asking for a route
     module _ (right : a < g.stations → g.marked a ≡ true → Right sum_kind (network g) a row) (places : ℕ) (old new : List ℕ) where
       pub route_settled : (r : Result ℕ Refusal) → sound hand g (route a b places) ≡ true → RouteAnswer sum_kind g row a b old new r
-          → (r ≡ routed old (way hand g a b)) × (new ≡ written old (way hand g a b))
+          → (coded r ≡ fitting old (way hand g a b)) × (new ≡ written old (way hand g a b))
       route_settled r passes answer =
           let parts =
           and_parts (is_none (route_refusal sum_kind g (hand.rows a) a b)) (row_passes hand g a && one_tight sum_kind (network g) a (hand.rows a)) passes in
@@ -137,12 +129,13 @@ module _ (hand : Hand) (g : Ledger Sum) (fair : Fair sum_kind (network g)) where
           let back = right_one by_hand.0 by_hand.1 (traced_route sum_laws sum_strict fair.between fair.none_free by_hand.0 there by_hand.1 near).0 chain in
           let ends = fitted old new (way hand g a b) r (nat_lt (length old) (length (way hand g a b))) in
           subst (λ zs. told r ≡ refused_if (nat_lt (length old) (length zs)) (bare 12) None → IfOk r (λ n. (n ≡ length zs) × (new ≡ zs ++ drop n old))
-          → (r ≡ routed old (way hand g a b)) × (new ≡ written old (way hand g a b)))
+          → (coded r ≡ fitting old (way hand g a b)) × (new ≡ written old (way hand g a b)))
           back (λ refusal is. ends refusal is answer.kept) by_row.refusal by_row.written
 
   -- testing a row
   module _ (a : ℕ) (xs : List Sum) (ys : List ℕ) where
-    pub check_settled : (r : Result ⊤ Refusal) → sound hand g (check a xs ys) ≡ true → CheckAnswer sum_kind g a xs ys r → r ≡ Err (FailingRow hand.failing)
+    pub check_settled : (r : Result ⊤ Refusal) → sound hand g (check a xs ys) ≡ true → CheckAnswer sum_kind g a xs ys r
+        → coded r ≡ Err (record { number = 14; facts = AtStation hand.failing })
     check_settled r passes answer =
         let net : Network Sum = network g in
         let row : Row Sum = given sum_kind xs ys in
@@ -160,7 +153,8 @@ module _ (hand : Hand) (g : Ledger Sum) (fair : Fair sum_kind (network g)) where
         by_result : a < g.stations → hand.failing.station < g.stations → check_refusal g a xs ys ≡ None
             → fails sum_kind (network g) a (given sum_kind xs ys) hand.failing.station hand.failing.cause ≡ true
             → fails_only sum_kind (network g) a (given sum_kind xs ys) (λ B cause. B == hand.failing.station && cause == hand.failing.cause) ≡ true
-            → (r : Result ⊤ Refusal) → CheckAnswer sum_kind g a xs ys r → r ≡ Err (FailingRow hand.failing)
+            → (r : Result ⊤ Refusal) → CheckAnswer sum_kind g a xs ys r
+            → coded r ≡ Err (record { number = 14; facts = AtStation hand.failing })
         by_result source there none fail only (Ok x) answer =
             let right = (answer.accepted.0 refl).1 in
             let passes =
@@ -174,4 +168,4 @@ module _ (hand : Hand) (g : Ledger Sum) (fair : Fair sum_kind (network g)) where
             let station : f.station ≡ hand.failing.station = grind (arith, nat_tests) in
             let cause : f.cause ≡ hand.failing.cause = grind (arith, nat_tests) in
             let same : f ≡ hand.failing = λ i. record { station = station i; cause = cause i } in
-            ap Err (row_code e f faulty.code ∙ ap FailingRow same)
+            ap Err (faulty.code ∙ ap (λ (z : Failing). record { number = 14; facts = AtStation z }) same)

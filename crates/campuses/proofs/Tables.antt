@@ -1,4 +1,4 @@
--- Both tables of calls and answers, as the definitions compute them; and what a replay of such calls leaves.
+-- Both tables of calls and replies, as the definitions compute them; and what a replay of such calls leaves.
 use Rattle.std.proofs.Common.{◌≡◌, ℕ, ◌+◌, true, ◌==◌, List, [], ◌∷◌, ◌++◌, length, map, drop, replicate, None, Result, Ok, Err, IsOk, OnOk, if◌then◌else◌}
 use Rattle.std.proofs.Common.{refl, ap, subst, sym, ◌∙◌, append-nil, arith}
 use Rattle.std.specs.Prelude.{⊤}
@@ -21,7 +21,7 @@ use Rattle.replay.specs.Replayed.{Replays}
 use Rattle.replay.specs.declared.entry.Entry.{Entry as Given}
 use Rattle.replay.specs.declared.entry.Answer.{Answer}
 use Rattle.tables.specs.Made.{made}
-use Rattle.campuses.specs.Asked.{Asked, ranked, spots, asked_of_h, asked_of_j}
+use Rattle.campuses.specs.Asked.{Asked, Reply, reply, spots, asked_of_h, asked_of_j}
 use Rattle.campuses.specs.Campuses.{row_h, row_h_of_4, row_j, row_j_of_1, row_j_of_2}
 use Rattle.campuses.proofs.Expected.{Hand}
 use Rattle.campuses.proofs.Computed.{places_in, same_places, computed, all_sound, answers_by_hand, spots_by_hand}
@@ -35,8 +35,8 @@ hand_j = record { rows = λ a. if a == 1 then row_j_of_1 else (if a == 2 then ro
 abbrev call_of : Asked → Entry Sum
 call_of x = x.call
 
-abbrev answer_of : Asked → Answer ℕ
-answer_of x = x.answer
+abbrev reply_of : Asked → Reply
+reply_of x = x.reply
 
 -- a table is what the definitions compute, from some ledger on, where the places hold old
 pub record Computes (hand : Hand) (start : Ledger Sum) (xs : List Asked) (old : List ℕ) : Type 0 where
@@ -97,8 +97,8 @@ module _ {hand : Hand} {start : Ledger Sum} {xs : List Asked} {old : List ℕ} (
     replays : Replays sum_kind es answers old new before after (length es)
     replays = where_ok r ok run
 
-    pub answers_are : length answers ≡ length xs → map ranked answers ≡ map answer_of xs
-    answers_are room = answers_by_hand hand (replays start [] stands) sound (room ∙ sym long) ∙ ap (map answer_of) same
+    pub answers_are : length answers ≡ length xs → map reply answers ≡ map reply_of xs
+    answers_are room = answers_by_hand hand (replays start [] stands) sound (room ∙ sym long) ∙ ap (map reply_of) same
 
     pub spots_are : drop (sum_by places_of es) new ≡ drop (sum_by places_of es) old → length old ≡ sum_by places_in (map call_of xs) → new ≡ spots xs
     spots_are past enough =

@@ -1,7 +1,7 @@
 // What the calls on both campuses answer.
 ghost use Rattle.std.specs.Prelude.{◌≡◌, map, replicate, IfOk, IsOk};
 ghost use Rattle.cost.specs.Worked.{worked_numbers};
-ghost use Rattle.campuses.specs.Asked.{Asked, asked_of_h, asked_of_j, ranked, spots};
+ghost use Rattle.campuses.specs.Asked.{Asked, asked_of_h, asked_of_j, reply, spots};
 
 use super::calls::{calls_on_h, calls_on_j};
 use cost::{Cost, Link, Sum, worked_joins};
@@ -23,12 +23,12 @@ pub struct Answers {
 // What stands in a list of answers before they are given.
 const NO_ANSWER: Answer<Sum> = Answer::Lay(Ok(()));
 
-// Works both campuses in memory of their own, with a queue of their own.
+// Works both campuses in memory of their own, with a queue of their own: each call replies as it is worked out by hand, each refusal by its code.
 pub fn worked_campuses<Q: Queue + Drop>() -> Result<Answers, Refusal>
     ensures accepted { IsOk result }
-    ensures h { IfOk result (λ a. map ranked a.h ≡ map (λ (x : Asked). x.answer) asked_of_h) }
+    ensures h { IfOk result (λ a. map reply a.h ≡ map (λ (x : Asked). x.reply) asked_of_h) }
     ensures routes { IfOk result (λ a. a.routes ≡ spots asked_of_h) }
-    ensures j { IfOk result (λ a. map ranked a.j ≡ map (λ (x : Asked). x.answer) asked_of_j) }
+    ensures j { IfOk result (λ a. map reply a.j ≡ map (λ (x : Asked). x.reply) asked_of_j) }
     ensures joins { IfOk result (λ a. a.joins ≡ worked_numbers) }
 {
     let mut queue = Q::new();
@@ -59,7 +59,7 @@ fn work_h<Q: Queue>(
     answers: &mut [Answer<Sum>; 17],
 ) -> Result<(), Refusal>
     ensures accepted { pool.old ≡ replicate 9 0 → IsOk result }
-    ensures answers { pool.old ≡ replicate 9 0 → map ranked answers.new ≡ map (λ (x : Asked). x.answer) asked_of_h }
+    ensures answers { pool.old ≡ replicate 9 0 → map reply answers.new ≡ map (λ (x : Asked). x.reply) asked_of_h }
     ensures routes { pool.old ≡ replicate 9 0 → pool.new ≡ spots asked_of_h }
 {
     let mut list = [no_link(); 5];
@@ -73,7 +73,7 @@ fn work_h<Q: Queue>(
 // Works campus J.
 fn work_j<Q: Queue>(queue: &mut Q, answers: &mut [Answer<Sum>; 14]) -> Result<(), Refusal>
     ensures accepted { IsOk result }
-    ensures answers { map ranked answers.new ≡ map (λ (x : Asked). x.answer) asked_of_j }
+    ensures answers { map reply answers.new ≡ map (λ (x : Asked). x.reply) asked_of_j }
 {
     let mut list = [no_link(); 10];
     let mut costs = [Sum::far(); 64];

@@ -1,5 +1,5 @@
 -- Where a cell lies in a table that was copied row after row, and what it tells.
-use Rattle.std.specs.Prelude.{◌≡◌, ◌≢◌, ℕ, suc, ◌+◌, ◌*◌, ◌<◌, ◌≤◌, List, ◌++◌, Option, Some, None, length, slice_index, ◌⊎◌}
+use Rattle.std.specs.Prelude.{◌≡◌, ◌≢◌, ℕ, suc, ◌+◌, ◌*◌, ◌<◌, ◌≤◌, List, ◌++◌, Option, Some, None, length, drop, slice_index}
 use Rattle.std.specs.List.{flat_map, range_with_len}
 use Rattle.std.specs.Option.{unwrap_or}
 use Rattle.std.proofs.Common.{◌∙◌, zero, refl, arith, ap, sym, ⊎_elim, mul-le-mul_right, suc-mul}
@@ -8,12 +8,13 @@ use Rattle.std.proofs.lemmas.List.{get_or-append-add, get_or_append_left}
 use Rattle.std.proofs.lemmas.List.FromFn.{get_or-map-range_with_len, length-map-range_with_len}
 use Rattle.cost.specs.Kind.{Kind}
 use Rattle.routes.specs.Network.{Network}
+use Rattle.routes.proofs.JoinedWalks.{last_ends}
 use Rattle.routes.specs.Row.{Right, Row}
 use Rattle.routes.specs.Walk.{LastBefore}
 use Rattle.listing.proofs.Ranges.{told_suc}
-use Rattle.tables.specs.Copied.{befores, numbers}
+use Rattle.tables.specs.Copied.{befores, numbers, Copied}
 use Rattle.capi.specs.Cells.{CellTold}
-use Rattle.capi.specs.Tabled.{Filled, Tabled}
+use Rattle.capi.specs.Tabled.{Bounds, Filled, Tabled}
 use Rattle.capi.proofs.FilledRows.{length_rows}
 
 module _ (f : ℕ → List ℕ) (n : ℕ) (each : (k : ℕ) → length (f k) ≡ n) (a b : ℕ) (there : b < n) where
@@ -47,6 +48,29 @@ given_by : {P : ℕ → Type 0} (o : Option ℕ) → ((p : ℕ) → o ≡ Some p
 given_by None so apart = absurd (apart refl)
 given_by (Some p) so apart = so p refl
 
+-- one that is missing
+missing_by : (o : Option ℕ) → ((p : ℕ) → o ≡ Some p → p < 65535) → unwrap_or o 65535 ≡ 65535 → o ≡ None
+missing_by None below is = refl
+missing_by (Some p) below is = absurd (omega (arith, below p refl, is))
+
+-- a cell of a right row
+module _ {K : Type 0} (m : Kind K) (net : Network K) (a b : ℕ) (row_there : a < net.stations) (there : b < net.stations) (row : Row K) (bounds : Bounds net) (right : Right m net a row) where
+  -- a predecessor is a station
+  station : (p : ℕ) → row.predecessors b ≡ Some p → p < 65535
+  station p is = let fits = last_ends bounds.between row_there (right.given b p there is) in omega (arith, bounds.few, fits)
+
+  told_by : {x y : ℕ} → x ≡ m.rank (row.costs b) → y ≡ unwrap_or (row.predecessors b) 65535 → CellTold m net a b x y
+  told_by number before = record {
+    cost = row.costs b;
+    least = right.least b there;
+    number = number;
+    missing = (
+      λ is. (right.missing b there).0 (missing_by (row.predecessors b) station (sym before ∙ is)),
+      λ none. before ∙ ap (λ o. unwrap_or o 65535) ((right.missing b there).1 none),
+    );
+    given = rw before (given_by {P = λ p. LastBefore m net a p b (row.costs b)} (row.predecessors b) (λ p is. right.given b p there is));
+  }
+
 module _ {K : Type 0} (m : Kind K) (net : Network K) (rows : ℕ → Row K) (xs xs' ys ys' : List ℕ) (filled : Filled m net rows xs xs' ys ys') (a b : ℕ) (row_there : a < net.stations) (there : b < net.stations) where
   abbrev n : ℕ
   n = net.stations
@@ -63,14 +87,23 @@ module _ {K : Type 0} (m : Kind K) (net : Network K) (rows : ℕ → Row K) (xs 
       ∙ cell_placed (λ k. befores n (rows k)) n (λ k. length-map-range_with_len (λ s. unwrap_or ((rows k).predecessors s) 65535) 0 n) a b there row_there _
       ∙ get_or-map-range_with_len (λ s. unwrap_or ((rows a).predecessors s) 65535) 0 n b b 0 there (omega arith)
 
-  pub cell_told : Right m net a (rows a) → CellTold m net a b (slice_index xs' (a * n + b)) (slice_index ys' (a * n + b))
-  cell_told right = record {
-    cost = (rows a).costs b;
-    least = right.least b there;
-    number = number;
-    missing = λ none. before ∙ ap (λ o. unwrap_or o 65535) ((right.missing b there).1 none);
-    given = rw before (given_by {P = λ p. LastBefore m net a p b ((rows a).costs b)} ((rows a).predecessors b) (λ p is. right.given b p there is));
-  }
+  pub cell_told : Bounds net → Right m net a (rows a) → CellTold m net a b (slice_index xs' (a * n + b)) (slice_index ys' (a * n + b))
+  cell_told bounds right = told_by m net a b row_there there (rows a) bounds right number before
+
+-- of one row that was copied
+pub row_told : {K : Type 0} (m : Kind K) (net : Network K) (row : Row K) (xs xs' ys ys' : List ℕ) → Bounds net → Copied m net.stations row xs xs' ys ys'
+    → (a b : ℕ) → a < net.stations → b < net.stations → Right m net a row → CellTold m net a b (slice_index xs' b) (slice_index ys' b)
+row_told m net row xs xs' ys ys' bounds copied a b row_there there right =
+    let n : ℕ = net.stations in
+    let number : slice_index xs' b ≡ m.rank (row.costs b) =
+    ap (λ (l : List ℕ). slice_index l b) copied.costs
+    ∙ get_or_append_left (numbers m n row) (drop n xs) 0 b (omega (arith, there, length-map-range_with_len (λ s. m.rank (row.costs s)) 0 n))
+    ∙ get_or-map-range_with_len (λ s. m.rank (row.costs s)) 0 n b b 0 there (omega arith) in
+    let before : slice_index ys' b ≡ unwrap_or (row.predecessors b) 65535 =
+    ap (λ (l : List ℕ). slice_index l b) copied.predecessors
+    ∙ get_or_append_left (befores n row) (drop n ys) 0 b (omega (arith, there, length-map-range_with_len (λ s. unwrap_or (row.predecessors s) 65535) 0 n))
+    ∙ get_or-map-range_with_len (λ s. unwrap_or (row.predecessors s) 65535) 0 n b b 0 there (omega arith) in
+    told_by m net a b row_there there row bounds right number before
 
 pub cells_told : {K : Type 0} (m : Kind K) (net : Network K) (xs xs' ys ys' : List ℕ) → Tabled m net xs xs' ys ys' → (a b : ℕ) → a < net.stations → b < net.stations → CellTold m net a b (slice_index xs' (a * net.stations + b)) (slice_index ys' (a * net.stations + b))
-cells_told m net xs xs' ys ys' tabled a b row_there there = cell_told m net tabled.rows xs xs' ys ys' tabled.filled a b row_there there (tabled.right a row_there)
+cells_told m net xs xs' ys ys' tabled a b row_there there = cell_told m net tabled.rows xs xs' ys ys' tabled.filled a b row_there there tabled.bounds (tabled.right a row_there)

@@ -1,8 +1,8 @@
 -- The whole table of a plan file, by one method.
 --
 --   FilledBy m method p xs xs' ys ys'
---                        all rows of the plan p were worked in row order by the method; they are right, and stand at the start of the
---                        lists xs' and ys', which were xs and ys; the places after them stay
+--                        all rows of the plan p, which is in bounds, were worked in row order by the method; they are right,
+--                        and stand at the start of the lists xs' and ys', which were xs and ys; the places after them stay
 --   TabledBy m net k xs xs' ys ys'
 --                        that of a plan of these stations and links, with no row worked, by the method of the number k
 --   table_by_refusal f k l xs ys bs   the refusals of a file, and then those of a method's and a queue's number
@@ -27,14 +27,14 @@ use Rattle.ledger.specs.Ledger.{network}
 use Rattle.tables.specs.Made.{made}
 use Rattle.tables.specs.Read.{file_refusal}
 use Rattle.plan.specs.View.{view}
-use Rattle.plan.specs.declared.plan.Plan.{Plan}
+use Rattle.tables.specs.declared.state.Tables.{Tables as Plan}
 use Rattle.listing.specs.AllRows.{AllWorked}
 use Rattle.listing.specs.Report.{file_network}
 use Rattle.capi.specs.Choices.{choice_refusal, method_named}
 use Rattle.capi.specs.Facts.{Accepts, Answered}
 use Rattle.capi.specs.Sound.{most_links}
 use Rattle.capi.specs.Table.{Kept}
-use Rattle.capi.specs.Tabled.{Filled}
+use Rattle.capi.specs.Tabled.{Bounds, Filled}
 
 module _ {K : Type 0} (m : Kind K) where
   pub record FilledBy (method : Method) (p : Plan K) (xs xs' ys ys' : List ℕ) : Type 0 where
@@ -42,6 +42,7 @@ module _ {K : Type 0} (m : Kind K) where
     pub queue : Meaning
     pub queue_then : Meaning
     pub worked : AllWorked m method p queue (view m p).ledger.stations after queue_then
+    pub bounds : Bounds (network (view m p).ledger)
     pub right : (a : ℕ) → a < (view m p).ledger.stations → Right m (network (view m p).ledger) a ((view m after).rows a)
     pub filled : Filled m (network (view m p).ledger) (view m after).rows xs xs' ys ys'
 

@@ -1,8 +1,8 @@
 -- One row of a plan file.
 --
 --   RowFilled m v a method xs xs' ys ys' taken
---                       row a was worked from the view v by the method, as many stations were taken, and the row stands at the start of
---                       the lists xs' and ys', which were xs and ys; the places after them stay
+--                       row a was worked from the view v, which is in bounds, by the method; as many stations were taken, and the row
+--                       stands at the start of the lists xs' and ys', which were xs and ys; the places after them stay
 --   row_refusal f a k l xs ys bs    the refusals of a file; then of the station, of lists that are shorter than the row, and of the
 --                       numbers of a method and a queue
 --   file_view m formed bs rows      how a plan shows itself that was read from a file: no row is worked, so its rows are free
@@ -27,6 +27,7 @@ use Rattle.refusal.specs.declared.Code.{Code}
 use Rattle.routes.specs.Row.{Row}
 use Rattle.routes.specs.declared.method.Method.{Method}
 use Rattle.ledger.specs.View.{View}
+use Rattle.ledger.specs.Ledger.{network}
 use Rattle.ledger.specs.Worked.{Worked}
 use Rattle.tables.specs.Copied.{Copied}
 use Rattle.tables.specs.Made.{made}
@@ -34,9 +35,11 @@ use Rattle.capi.specs.Choices.{choice_refusal, method_named}
 use Rattle.capi.specs.Facts.{Accepts, Answered}
 use Rattle.capi.specs.Sound.{most_links}
 use Rattle.capi.specs.Table.{Kept}
+use Rattle.capi.specs.Tabled.{Bounds}
 
 module _ {K : Type 0} (m : Kind K) where
   pub record RowFilled (v : View K) (a : ℕ) (method : Method) (xs xs' ys ys' : List ℕ) (taken : ℕ) : Type 0 where
+    pub bounds : Bounds (network v.ledger)
     pub row : Row K
     pub queue : Meaning
     pub worked : Worked m v a method row queue

@@ -1,5 +1,6 @@
 -- Whether a plan file is sound.
 --
+--   most_links                       the places of the list that a file is read into, 4,096
 --   SoundAnswer bs facts facts' r    the file is refused, or accepted with its kind byte, stations and links
 use Rattle.std.specs.Prelude.{ℕ, List, [], ◌∷◌}
 use Rattle.filekind.specs.Format.{Format, split_format, sum_format}

@@ -1,9 +1,9 @@
 -- The whole table of a plan file.
 --
---   kept_lists xs xs' ys ys'   two lists are as they were
+--   Kept xs xs' ys ys'         two lists are as they were
+--   TableThen .. r             the table stands in the lists, and the facts are the number of stations
 --   TableIn m formed f bs xs xs' ys ys' facts facts' r
---                              the file is refused as one that is read beside tables of so many places as the lists have, or the
---                              table stands in them, and the facts are the number of stations
+--                              the file is refused as one that is read beside tables of so many places as the lists have, or that
 --   TableAnswer bs ..          that, for the kind that the file's kind byte names
 use Rattle.std.specs.Prelude.{◌≡◌, ℕ, List, [], ◌∷◌, length, Option}
 use Rattle.cost.specs.Kind.{Kind}

@@ -20,9 +20,9 @@ pub(crate) fn read_plan<K: FileKind>(
     costs: usize,
     predecessors: usize,
 ) -> Result<(), Refusal>
-    requires list { length plan.old.tables.list.cells.now ≡ most_links }
-    requires cells { length plan.old.tables.costs.cells.now ≡ min costs 65536 }
-    requires befores { length plan.old.tables.predecessors.cells.now ≡ min predecessors 65536 }
+    requires list { length plan.old.list.now ≡ most_links }
+    requires cells { length plan.old.costs.now ≡ min costs 65536 }
+    requires befores { length plan.old.predecessors.now ≡ min predecessors 65536 }
     ensures refused { told result ≡ file_refusal K.FileKind.format most_links costs predecessors file.now }
     ensures ledger { OnOk result ((view K.Cost.kind plan.new).ledger ≡ made (stations_of file.now) most_links (links_of K.Cost.kind K.Cost.formed file.now)) }
     ensures stands { OnOk result (Stands K.Cost.kind (made (stations_of file.now) most_links (links_of K.Cost.kind K.Cost.formed file.now)) [] (view K.Cost.kind plan.new)) }

@@ -68,9 +68,9 @@ fn read_row<K: FileKind>(
     costs: &mut [u64],
     predecessors: &mut [u16],
 ) -> Result<WorkedRow, Fault>
-    requires list { length plan.old.tables.list.cells.now ≡ 4096 }
-    requires cells { length plan.old.tables.costs.cells.now ≡ 65536 }
-    requires befores { length plan.old.tables.predecessors.cells.now ≡ 65536 }
+    requires list { length plan.old.list.now ≡ 4096 }
+    requires cells { length plan.old.costs.now ≡ 65536 }
+    requires befores { length plan.old.predecessors.now ≡ 65536 }
     ensures refused { fault_of result ≡ row_refusal K.FileKind.format source method queue costs.old predecessors.old file.now }
     ensures stations { IfOk result (λ x. x.stations ≡ stations_of file.now) }
     ensures worked { IfOk result (λ x. WorkedBy K.Cost.kind K.Cost.formed file.now source method costs.old costs.new predecessors.old predecessors.new x.taken) }

@@ -20,6 +20,7 @@ returns-clause-filled g c start log stands =
       queue = meaning c.args.queue.now;
       queue_then = meaning c.work_all.new.queue;
       worked = c.work_all.ensures.rows;
+      bounds = record { few = stands.holds.not_too_many; between = stands.holds.fair.between };
       right = λ a there. subst (λ net. Right m net a (after.rows a)) same (stood.holds.marked a (omega (arith, there, stations)) (c.work_all.ensures.marked a there));
       filled = subst (λ net. Filled m net after.rows c.args.costs.now c.copy_table.new.costs c.args.predecessors.now c.copy_table.new.predecessors) same c.copy_table.ensures.filled;
     }

@@ -28,6 +28,7 @@ returns g c = record {
       let none = copy_accepted after.ledger a c.args.costs.now c.args.predecessors.now (omega (arith, c.requires.source, stations)) marked
       (omega (arith, c.requires.costs_fit, stations)) (omega (arith, c.requires.predecessors_fit, stations)) in
       let copied = on_accepted c.copy_row.result (copy.refusal ∙ none) copy.copied in record {
+        bounds = record { few = stands.holds.not_too_many; between = stands.holds.fair.between };
         row = after.rows a;
         queue = queue;
         worked = subst (λ l. Worked m (record { ledger = l; rows = before.rows }) a c.args.method (after.rows a) queue) (sym stands.reckoned) worked;

@@ -15,6 +15,7 @@ returns-clause-tabled g c start log stands =
     let same = c.work_table.ensures.network in
     let stations : after.ledger.stations ≡ before.ledger.stations = ap (λ (net : Network _). net.stations) same in
     let stood = c.work_table.ensures.rows.logged start log stands in record {
+      bounds = record { few = stands.holds.not_too_many; between = stands.holds.fair.between };
       rows = after.rows;
       right = λ a there. subst (λ net. Right m net a (after.rows a)) same (stood.holds.marked a (omega (arith, there, stations)) (c.work_table.ensures.marked a there));
       filled = subst (λ net. Filled m net after.rows c.args.costs.now c.copy_table.new.costs c.args.predecessors.now c.copy_table.new.predecessors) same c.copy_table.ensures.filled;
