@@ -10,7 +10,7 @@ Run it in the repository's root. It knows nothing of the Rattle code: files and 
 import pathlib
 import random
 
-from model import BYTES, RANGES, TOP, plan_file as plan
+from model import BYTES, CAMPUS_H, RANGES, TOP, plan_file as plan
 
 
 def faults_of(kind, stations, links):
@@ -259,6 +259,7 @@ def main():
     campus = plan("sum", 10, CAMPUS)
     (root / "examples").mkdir(exist_ok=True)
     (root / "examples/campus.cpl").write_bytes(campus)
+    (root / "examples/small.cpl").write_bytes(plan("sum", 5, CAMPUS_H))
     (root / "examples/outlets.cpl").write_bytes(plan("split", 6, OUTLETS))
     (root / "examples/repeated.cpl").write_bytes(plan("sum", 4, [(0, 1, 7), (1, 2, 7), (2, 3, 7), (0, 1, 9)]))
     (root / "crates/links/stdin").write_bytes(campus)

@@ -1,6 +1,6 @@
 """Respells this repository's own definitions, fields and lemmas to the present style: words in snake case.
 
-    python3 tools/spell.py        at the top of the repository, once, after the port of the toolchain's spelling
+    python3 spell.py        once, after the port of the toolchain's spelling
 
 A dash stays only where a lemma joins two names, as in length-records_of. Names that Rattle makes, and names of its
 library, are not in the table. The texts of .rt, .antt and .md files are turned, word by word; code has no such words.
@@ -46,7 +46,7 @@ def table():
 
 
 def main():
-    top = pathlib.Path(__file__).resolve().parent.parent
+    top = pathlib.Path(__file__).resolve().parent.parent.parent
     names = table()
     word = re.compile(r"(?<![\w'·-])[A-Za-z][\w']*(?:-[\w']+)+(?![\w'-])")
     used = set()
