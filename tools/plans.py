@@ -106,6 +106,10 @@ class Table:
         self.lines.append(f"form {kind} {number}")
         self.answers.append(answer_form(kind, number))
 
+    def line(self, words, answer):
+        self.lines.append(words)
+        self.answers.append(answer)
+
 
 def cases():
     t = Table()
@@ -224,6 +228,28 @@ def cases():
     for kind in ("sum", "split"):
         for number in (0, 1, 2, TOP - 1, TOP):
             t.form(kind, number)
+
+    t.note("lines that a table need not have: a digit that is none counts as 0, also one in upper case; a last one alone is left out")
+    empty = plan("sum", 2, [])
+    digits = empty.hex()
+    t.line(f"read sum 4096 {digits[:-1]}B", answer_read("sum", 4096, empty))
+    t.line(f"read sum 4096 {digits[:-2]}g0", answer_read("sum", 4096, empty))
+    t.line(f"read sum 4096 {digits[:-2]}\u00e9", answer_read("sum", 4096, empty))
+    t.line(f"read sum 4096 {digits[:-1]}", answer_read("sum", 4096, empty[:-1]))
+    t.line(f"read sum 4096 {digits}0", answer_read("sum", 4096, empty))
+    t.line(f"read sum 4096 {digits.upper()}", answer_read("sum", 4096, bytes.fromhex(digits.replace("c", "0"))))
+
+    t.note("a word that is missing is empty, and one too many is not read; a kind that is none is sum, a call that is none forms a cost")
+    t.line("read sum 4096", answer_read("sum", 4096, b""))
+    t.line("read sum 0", answer_read("sum", 0, b""))
+    t.line(f"read sum 4096 {digits} words", answer_read("sum", 4096, empty))
+    t.line("form plain 0 1", answer_form("sum", 0))
+    t.line("make split 0", answer_form("split", 0))
+
+    t.note("a list ends at the first number that forms no cost; what follows it is not read, nor a fourth number of a link")
+    for rest in (",x", ",", ",0-1", ",0-65536-7", ",0-1-18446744073709551616"):
+        t.line(f"write split 3 60 0-1-0{rest}", answer_write("split", 3, 60, [(0, 1, 0)]))
+    t.line("write sum 3 60 0-1-7-9", answer_write("sum", 3, 60, one))
 
     t.note("plans by chance, and the same with one byte changed")
     dice = random.Random(1711)

@@ -2,18 +2,19 @@
 use super::case::Call;
 use cost::{Cost, Link};
 use filekind::FileKind;
-use planfile::{Fields, read, write};
+use planfile::{read, write};
 use refusal::{Facts, Refusal};
-use std::alloc::{AllocError, Global};
+use std::alloc::{AllocError, AllocFailed, Global};
+use std::num::ParseIntError;
 
 // What fills a buffer before it is written to.
 const OLD: u8 = 238;
 
-// Why a call has no value: the library refuses it, or memory runs out.
+// Why a call has no value: the library refuses it, or something else fails, such as reading a number.
 #[derive(Drop)]
 enum Stop {
     Refused(Refusal),
-    NoMemory(AllocError),
+    Failed(anyhow::Error),
 }
 
 // A refusal by the library. By hand, since a derive would want a message for each case.
@@ -23,15 +24,29 @@ impl From<Refusal> for Stop {
     }
 }
 
+// A word that is no number.
+impl From<ParseIntError> for Stop {
+    fn from(error: ParseIntError) -> Stop {
+        Stop::Failed(error.into())
+    }
+}
+
+// A lack of memory for a value.
+impl<T: Drop> From<AllocFailed<T>> for Stop {
+    fn from(failed: AllocFailed<T>) -> Stop {
+        Stop::Failed(failed.into())
+    }
+}
+
 // A lack of memory.
 impl From<AllocError> for Stop {
     fn from(error: AllocError) -> Stop {
-        Stop::NoMemory(error)
+        Stop::Failed(error.into())
     }
 }
 
 // The answer to a call for one kind.
-pub fn answer<K: FileKind>(heap: Global, call: &Call) -> Result<String, AllocError> {
+pub fn answer<K: FileKind>(heap: Global, call: &Call) -> anyhow::Result<String> {
     match call {
         Call::Read { places, bytes } => told(heap, read_back::<K>(heap, *places, bytes)),
         Call::Write {
@@ -44,11 +59,11 @@ pub fn answer<K: FileKind>(heap: Global, call: &Call) -> Result<String, AllocErr
 }
 
 // The text of a value, or the line of the refusal that stands in its place.
-fn told(heap: Global, value: Result<String, Stop>) -> Result<String, AllocError> {
+fn told(heap: Global, value: Result<String, Stop>) -> anyhow::Result<String> {
     match value {
         Ok(text) => Ok(text),
-        Err(Stop::Refused(refusal)) => refused(heap, refusal),
-        Err(Stop::NoMemory(error)) => Err(error),
+        Err(Stop::Refused(refusal)) => Ok(refused(heap, refusal)?),
+        Err(Stop::Failed(error)) => Err(error),
     }
 }
 
@@ -83,9 +98,9 @@ fn write_out<K: FileKind>(
     heap: Global,
     stations: u16,
     room: usize,
-    links: &[Fields],
+    links: &str,
 ) -> Result<String, Stop> {
-    let links: Vec<Link<K>> = links.iter().map(|x| link(*x)).try_collect(heap)?;
+    let links = links_listed::<K>(heap, links)?;
     let mut buffer = vec![in heap; OLD; room]?;
     let answer = match write::<K>(stations, &links, &mut buffer) {
         Ok(len) => format!(in heap; "ok {len}")?,
@@ -95,13 +110,20 @@ fn write_out<K: FileKind>(
     Ok(format!(in heap; "{answer} {held}")?)
 }
 
-// The link of three numbers.
-fn link<K: FileKind>(numbers: Fields) -> Result<Link<K>, Stop> {
-    Ok(Link {
-        from: numbers.from,
-        to: numbers.to,
-        cost: K::form(numbers.number)?,
-    })
+// The links of a text such as `0-1-7,1-2-9`, up to the first that is none; the word `none` stands for no link.
+fn links_listed<K: FileKind>(heap: Global, text: &str) -> Result<Vec<Link<K>>, Stop> {
+    let mut links = Vec::new(heap);
+    if text != "none" {
+        for item in text.split(',') {
+            let mut words = item.split('-');
+            let from = words.next().unwrap_or("").parse()?;
+            let to = words.next().unwrap_or("").parse()?;
+            let number = words.next().unwrap_or("").parse()?;
+            let cost = K::form(number)?;
+            links.push(Link { from, to, cost })?;
+        }
+    }
+    Ok(links)
 }
 
 // Forms a cost, and says its rank and whether it is FAR.

@@ -1,27 +1,27 @@
 // Cases, as the lines of the input tell them.
-use anyhow::{Result, bail};
+use anyhow::Result;
 use filekind::Kind;
-use planfile::Fields;
-use std::alloc::Global;
+use std::alloc::{AllocError, Global};
+use std::array;
 
 // What a line asks for.
 #[derive(Drop)]
-pub enum Case {
+pub enum Case<'a> {
     Comment,
-    Call(Kind, Call),
+    Call(Kind, Call<'a>),
 }
 
-// A call of the library.
+// A call of the library. Links stay text, since whether their list is read on depends on the kind.
 #[derive(Drop)]
-pub enum Call {
+pub enum Call<'a> {
     Read {
-        places: usize,
         bytes: Vec<u8>,
+        places: usize,
     },
     Write {
         stations: u16,
         room: usize,
-        links: Vec<Fields>,
+        links: &'a str,
     },
     Form {
         number: u64,
@@ -29,39 +29,39 @@ pub enum Call {
 }
 
 // Cases by their lines.
-impl Case {
+impl<'a> Case<'a> {
     // The case that a line tells.
-    pub fn parse(heap: Global, line: &str) -> Result<Case> {
-        let words: Vec<&str> = line.split(' ').collect(heap)?;
-        match words.as_slice() {
-            ["#", ..] => Ok(Case::Comment),
-            [call, kind, arguments @ ..] => {
-                Ok(Case::Call(kind_named(kind), Call::parse(heap, call, arguments)?))
-            }
-            _ => bail!("no case: {line}"),
+    pub fn parse(heap: Global, line: &'a str) -> Result<Case<'a>> {
+        let mut words = line.split(' ');
+        let name = words.next().unwrap_or("");
+        if name == "#" {
+            return Ok(Case::Comment);
         }
+        let others: [&str; 4] = array::from_fn(|_| words.next().unwrap_or(""));
+        let [kind, first, second, third] = others;
+        let call = Call::parse(heap, name, [first, second, third])?;
+        Ok(Case::Call(kind_named(kind), call))
     }
 }
 
 // Calls by their names.
-impl Call {
-    // The call of a name, with what it is given.
-    fn parse(heap: Global, name: &str, arguments: &[&str]) -> Result<Call> {
-        match (name, arguments) {
-            ("read", [places, file, ..]) => Ok(Call::Read {
-                places: places.parse()?,
-                bytes: hex::decode(heap, *file)?,
+impl<'a> Call<'a> {
+    // The call of a name, with what it is given; every other name than those of reading and writing stands for forming.
+    fn parse(heap: Global, name: &str, arguments: [&'a str; 3]) -> Result<Call<'a>> {
+        let [first, second, third] = arguments;
+        match name {
+            "read" => Ok(Call::Read {
+                bytes: bytes_of(heap, second)?,
+                places: first.parse()?,
             }),
-            ("write", [stations, room, links, ..]) => Ok(Call::Write {
-                stations: stations.parse()?,
-                room: room.parse()?,
-                links: links_listed(heap, links)?,
+            "write" => Ok(Call::Write {
+                stations: first.parse()?,
+                room: second.parse()?,
+                links: third,
             }),
-            ("read" | "write", _) => bail!("too few words for {name}"),
-            (_, [number, ..]) => Ok(Call::Form {
-                number: number.parse()?,
+            _ => Ok(Call::Form {
+                number: first.parse()?,
             }),
-            _ => bail!("no number for {name}"),
         }
     }
 }
@@ -74,23 +74,20 @@ fn kind_named(name: &str) -> Kind {
     }
 }
 
-// The numbers of links such as `0-1-7,1-2-9`; the word `none` stands for no link.
-fn links_listed(heap: Global, text: &str) -> Result<Vec<Fields>> {
-    match text {
-        "none" => Ok(Vec::new(heap)),
-        _ => text.split(',').map(link_numbers).try_collect(heap),
-    }
+// The bytes of pairs of digits; a last digit without another is left out.
+fn bytes_of(heap: Global, digits: &str) -> Result<Vec<u8>, AllocError> {
+    let (pairs, _) = digits.as_bytes().as_chunks::<2>();
+    pairs
+        .iter()
+        .map(|[high, low]| digit(*high) << 4 | digit(*low))
+        .collect(heap)
 }
 
-// The numbers of a link such as `0-1-7`.
-fn link_numbers(text: &str) -> Result<Fields> {
-    let mut words = text.split('-');
-    let (Some(from), Some(to), Some(number)) = (words.next(), words.next(), words.next()) else {
-        bail!("no link: {text}");
-    };
-    Ok(Fields {
-        from: from.parse()?,
-        to: to.parse()?,
-        number: number.parse()?,
-    })
+// The number of a hex digit in lower case; what is none counts as 0.
+fn digit(byte: u8) -> u8 {
+    match byte {
+        b'0'..=b'9' => byte - b'0',
+        b'a'..=b'f' => byte - b'a' + 10,
+        _ => 0,
+    }
 }

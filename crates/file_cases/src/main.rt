@@ -4,6 +4,9 @@
 //     write KIND STATIONS ROOM LINKS writes the links, as 0-1-7,1-2-9, into a buffer of so many bytes
 //     form KIND NUMBER               forms a cost of the kind
 //     # words                        repeats the words
+//
+// One blank divides words. One that is missing is empty, and one too many is not read. A digit of HEX that is none of 0 to 9 and a to f counts
+// as 0, and a last one alone is left out. LINKS end at the first number that forms no cost. A number that can't be read ends the program.
 #![tactic(auto)]
 
 mod call;
@@ -20,8 +23,8 @@ use std::io::{BufRead, BufReader};
 fn output(heap: Global, line: &str) -> anyhow::Result<String> {
     match Case::parse(heap, line)? {
         Case::Comment => Ok(String::from_str(heap, line)?),
-        Case::Call(Kind::Sum, call) => Ok(answer::<Sum>(heap, &call)?),
-        Case::Call(Kind::Split, call) => Ok(answer::<Split>(heap, &call)?),
+        Case::Call(Kind::Sum, call) => answer::<Sum>(heap, &call),
+        Case::Call(Kind::Split, call) => answer::<Split>(heap, &call),
     }
 }
 
