@@ -27,7 +27,10 @@ impl Queue for Shelf {
         if !(1..=256).contains(&stations) {
             return Err(Refusal::StationCount);
         }
-        self.ranks.fill(None);
+        // the places that count; `fill` takes no part of a field of a struct with ghost fields
+        for place in 0..usize::from(stations) {
+            self.ranks[place] = None;
+        }
         self.stations = stations;
         self.taken = 0;
         Ok(())
@@ -69,14 +72,20 @@ impl Shelf {
         Ok(usize::from(station))
     }
 
-    // A waiter of the lowest rank, if anybody waits.
+    // A waiter of the lowest rank, if anybody waits. A `for`, since a chain that ends in `min_by_key` takes a third longer.
     fn lowest(&self) -> Option<Waiter>
         ensures { MatchOption result (Nobody (shelf_meaning self.now)) (λ w. Lowest (shelf_meaning self.now) w.station) }
     {
-        (0..self.stations)
-            .zip(&self.ranks)
-            .filter_map(|(station, rank)| rank.map(|rank| Waiter { station, rank }))
-            .min_by_key(|waiter| waiter.rank)
+        let mut best: Option<Waiter> = None;
+        for station in 0..self.stations {
+            if let Some(rank) = self.ranks[usize::from(station)] {
+                match best {
+                    Some(waiter) if waiter.rank <= rank => {}
+                    _ => best = Some(Waiter { station, rank }),
+                }
+            }
+        }
+        best
     }
 }
 
