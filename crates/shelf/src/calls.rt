@@ -27,7 +27,7 @@ impl Queue for Shelf {
         if !(1..=256).contains(&stations) {
             return Err(Refusal::StationCount);
         }
-        // the places that count; `fill` takes no part of a field of a struct with ghost fields
+        // the places that count; by a loop, since the check does not cover lending `[..n]` of this field to `fill`
         for place in 0..usize::from(stations) {
             self.ranks[place] = None;
         }
@@ -52,7 +52,7 @@ impl Queue for Shelf {
 
     fn waits(&self, station: u16) -> Result<bool, Refusal> {
         let place = self.place(station)?;
-        // a `match`, since with `is_some` each caller tests the number a second time
+        // a `match`, which is compiled to fewer instructions than `is_some`
         match self.ranks[place] {
             Some(_) => Ok(true),
             None => Ok(false),
