@@ -110,7 +110,7 @@ fn write_out<K: FileKind>(
     Ok(format!(in heap; "{answer} {held}")?)
 }
 
-// The links of a text such as `0-1-7,1-2-9`, up to the first that is none; the word `none` stands for no link.
+// The links of a text such as `0-1-7,1-2-9`, or why the first one that has no value has none; the word `none` stands for no link.
 fn links_listed<K: FileKind>(heap: Global, text: &str) -> Result<Vec<Link<K>>, Stop> {
     let mut links = Vec::new(heap);
     if text != "none" {
